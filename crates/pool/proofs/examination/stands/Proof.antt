@@ -1,0 +1,64 @@
+-- `pool::examination::stands` meets its contract: each way out, by the tests that led there. Assumes nothing.
+use mathlib.Core.Path.{sym, _∙_}
+use borrow.Author.Needs.{needs}
+use borrow.Author.Tests.{not-true, not-false}
+use Rattle.pool.proofs.CodeExam.{stands-astray, stands-waiting, stands-above, stands-home}
+use Rattle.pool.proofs.examination.stands.Statement.{statement}
+use Rattle.pool.proofs.examination.stands.Tie as tie
+
+mul-if1 : tie.Need-mul-if1
+mul-if1 c = search needs
+
+shared-slice-read-if1 : tie.Need-shared-slice-read-if1
+shared-slice-read-if1 c = search needs
+
+returns : tie.Need-returns
+returns c = sym (stands-astray _ _ _ _ _ _ (c .if1 .taken))
+
+returns-2 : tie.Need-returns-2
+returns-2 c = sym (stands-waiting _ _ _ _ _ _ (c .before .before .if1 .left) (not-true _ (c .if2 .taken)))
+
+key0-requires : tie.Need-key0-requires
+key0-requires c κs = search needs
+
+key1-requires : tie.Need-key1-requires
+key1-requires c κs = search needs
+
+above-requires : tie.Need-above-requires
+above-requires c κs = search needs
+
+returns-3 : tie.Need-returns-3
+returns-3 c =
+    let d = c .before .before .before .before in
+    sym
+    (stands-above _ _ _ _ _ _ (d .before .before .if1 .left) (not-false _ (d .if2 .left)) (c .before .before .before .key0 .ensures) (c .before .before .key1 .ensures)
+    (sym (c .before .above .ensures) ∙ c .if3 .taken))
+
+distance-requires : tie.Need-distance-requires
+distance-requires c κs = search needs
+
+cast-result : tie.Need-cast-result
+cast-result c = search needs
+
+returns-4 : tie.Need-returns-4
+returns-4 c =
+    let d = c .before .before .before .before .before in
+    sym
+    (stands-home _ _ _ _ _ _ (d .before .before .if1 .left) (not-false _ (d .if2 .left)) (c .before .before .before .before .key0 .ensures) (c .before .before .before .key1 .ensures)
+    (sym (c .before .before .above .ensures) ∙ c .before .if3 .left) (c .distance .ensures))
+
+pub stands-spec : {M : Type 1} → statement M
+stands-spec =
+    tie.close
+    (tie.spec
+    mul-if1
+    shared-slice-read-if1
+    returns
+    returns-2
+    key0-requires
+    key1-requires
+    above-requires
+    returns-3
+    distance-requires
+    cast-result
+    returns-4)

@@ -1,0 +1,97 @@
+// Along a chain and along the buckets: the greatest key, the spread of a chain, the first busy bucket.
+use crate::chain::append;
+use crate::keywords::key0;
+use crate::keywords::key1;
+ghost use mathlib.Core.Path.{_≡_};
+ghost use Prim.Native.Nat.{_<_, _≤_};
+ghost use lib.ListN.{length};
+ghost use Rattle.keys.specs.Ordered.{ordered};
+ghost use Rattle.pool.specs.World.{waitingChain, links};
+ghost use Rattle.pool.specs.Fine.{Under, Fine, Room};
+ghost use Rattle.pool.specs.Core.{greatestOf, drained, drainChain, busyFrom};
+
+// The link of the slot with the greatest key, the first of them, on the chain from the link `start`.
+pub fn greatest(kind: u32, keys: &[u64], next: &[u32], start: u32) -> u32
+    requires { ⌜ Room kind (length (now next)) (now keys) ⌝ }
+    requires { ⌜ Under (length (now next)) (now next) ⌝ }
+    requires { ⌜ (0 < start) × (start ≤ length (now next)) ⌝ }
+    ensures { λ r. ⌜ r ≡ greatestOf kind (now (keys .entry)) (now (next .entry)) start ⌝ }
+{
+    let n = next.len();
+    let s = start as usize - 1;
+    let mut best = start;
+    let mut best0 = key0(kind, keys, s);
+    let mut best1 = key1(kind, keys, s);
+    let mut at = next[s];
+    let mut turns = 0;
+    while turns < n {
+        if at == 0 {
+            break;
+        }
+        let i = at as usize - 1;
+        let a0 = key0(kind, keys, i);
+        let a1 = key1(kind, keys, i);
+        if keys::above(kind, a0, a1, best0, best1) {
+            best = at;
+            best0 = a0;
+            best1 = a1;
+        }
+        at = next[i];
+        turns += 1;
+    }
+    best
+}
+
+// Each slot of the chain, front to back, goes to the tail of the bucket of its key's distance to the
+// top. Gives how many were moved.
+pub fn spread(
+    first: &mut [u32; 131],
+    last: &mut [u32; 131],
+    keys: &[u64],
+    next: &mut [u32],
+    back: &mut [u32],
+    kind: u32,
+    chain: usize,
+    top0: u64,
+    top1: u64,
+) -> u32
+    requires { ⌜ Fine (links (now first) (now last) (now next) (now back)) ⌝ }
+    requires { ⌜ Room kind (length (now next)) (now keys) ⌝ }
+    requires { ⌜ chain < 131 ⌝ }
+    ensures { λ r. ⌜ drained (links (now (first .exit)) (now (last .exit)) (now (next .exit)) (now (back .exit))) r ≡ drainChain kind (now (keys .entry)) (ordered kind top0 top1) chain (links (now (first .entry)) (now (last .entry)) (now (next .entry)) (now (back .entry))) ⌝ }
+{
+    let n = next.len();
+    let mut at = first[chain];
+    first[chain] = 0;
+    last[chain] = 0;
+    let mut moves: u32 = 0;
+    while (moves as usize) < n {
+        if at == 0 {
+            break;
+        }
+        let slot = at - 1;
+        let i = slot as usize;
+        at = next[i];
+        let d = keys::distance(kind, key0(kind, keys, i), key1(kind, keys, i), top0, top1);
+        append(first, last, next, back, d as usize, slot);
+        moves += 1;
+    }
+    moves
+}
+
+// The first bucket that is not empty, counting up from 0; the waiting chain's number if there is none.
+pub fn busy(first: &[u32; 131]) -> usize
+    ensures { λ r. ⌜ r ≡ busyFrom waitingChain (now (first .entry)) 0 ⌝ }
+{
+    let mut b = 0;
+    let found = loop {
+        if 128 < b {
+            break 129;
+        }
+        if first[b] != 0 {
+            break b;
+        }
+        b += 1;
+    };
+    found
+}
