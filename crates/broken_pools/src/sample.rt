@@ -1,0 +1,147 @@
+// Sound pools of five slots, laid out by hand: slots 0, 1 and 2 hold entries, 3 and 4 are free.
+use pool::Head;
+use pool::State;
+ghost use Prim.Native.Nat.{_<_};
+
+// A state and a pool as one value, so that a clause can be broken by one store.
+pub struct Sample {
+    pub head: Head,
+    pub first: [u32; 131],
+    pub last: [u32; 131],
+    pub keys: [u64; 10],
+    pub values: [u64; 5],
+    pub next: [u32; 5],
+    pub back: [u32; 5],
+}
+
+// How many key words five slots have.
+pub fn words(kind: u32) -> usize {
+    if kind == 4 { 10 } else { 5 }
+}
+
+// The words of three keys: two that are equal, the top, and a lower one. Kind 3 is reversed, so that
+// its lower key is the greater number.
+pub fn keys(kind: u32) -> [u64; 10] {
+    match kind {
+        3 => [8, 8, 15, 0, 0, 0, 0, 0, 0, 0],
+        4 => [8, 5, 8, 5, 7, 9, 0, 0, 0, 0],
+        _ => [8, 8, 7, 0, 0, 0, 0, 0, 0, 0],
+    }
+}
+
+// The bucket of the lower key: the place of the highest bit where it differs from the top.
+pub fn bucket(kind: u32) -> usize
+    ensures { λ r. ⌜ r < 131 ⌝ }
+{
+    match kind {
+        3 => 3,
+        4 => 68,
+        _ => 4,
+    }
+}
+
+pub fn top1(kind: u32) -> u64 {
+    if kind == 4 { 5 } else { 0 }
+}
+
+// With a top: the two equal keys in bucket 0, the lower one in its own.
+pub fn with_top(kind: u32) -> Sample {
+    let mut first = [0; 131];
+    let mut last = [0; 131];
+    first[0] = 1;
+    last[0] = 2;
+    first[pool::FREE] = 4;
+    last[pool::FREE] = 5;
+    let b = bucket(kind);
+    first[b] = 3;
+    last[b] = 3;
+    Sample {
+        head: Head {
+            kind,
+            len: 3,
+            topped: true,
+            top0: 8,
+            top1: top1(kind),
+        },
+        first,
+        last,
+        keys: keys(kind),
+        values: [11, 12, 13, 0, 0],
+        next: [2, 0, 0, 5, 0],
+        back: [0, 1, 0, 0, 0],
+    }
+}
+
+// With no top: the three wait.
+pub fn waiting(kind: u32) -> Sample {
+    let mut first = [0; 131];
+    let mut last = [0; 131];
+    first[pool::WAITING] = 1;
+    last[pool::WAITING] = 3;
+    first[pool::FREE] = 4;
+    last[pool::FREE] = 5;
+    Sample {
+        head: Head {
+            kind,
+            len: 3,
+            topped: false,
+            top0: 0,
+            top1: 0,
+        },
+        first,
+        last,
+        keys: keys(kind),
+        values: [11, 12, 13, 0, 0],
+        next: [2, 3, 0, 5, 0],
+        back: [0, 1, 2, 0, 0],
+    }
+}
+
+// The examination of the first so many key words, values, next and back links.
+pub fn examine(s: Sample, k: usize, v: usize, n: usize, b: usize) -> u8 {
+    let head = s.head;
+    let first = s.first;
+    let last = s.last;
+    let keys = s.keys;
+    let values = s.values;
+    let next = s.next;
+    let back = s.back;
+    part(
+        State { head, first, last },
+        &keys,
+        &values,
+        &next,
+        &back,
+        k,
+        v,
+        n,
+        b,
+    )
+}
+
+// The same of any slices; 99 if one is shorter than what is asked for.
+pub fn part(
+    state: State,
+    keys: &[u64],
+    values: &[u64],
+    next: &[u32],
+    back: &[u32],
+    k: usize,
+    v: usize,
+    n: usize,
+    b: usize,
+) -> u8 {
+    if keys.len() < k {
+        return 99;
+    }
+    if values.len() < v {
+        return 99;
+    }
+    if next.len() < n {
+        return 99;
+    }
+    if back.len() < b {
+        return 99;
+    }
+    pool::examine(state, &keys[..k], &values[..v], &next[..n], &back[..b])
+}
