@@ -1,0 +1,68 @@
+-- `heap::changing::pop` meets its contract: it is stopped by the examination, or what the engine does is the pop. Assumes nothing.
+use borrow.Author.Needs.{needs}
+use Rattle.pool.specs.World.{worldOf}
+use Rattle.pool.specs.Sound.{Whole}
+use Rattle.pool.proofs.Fine.{whole-ready}
+use Rattle.heap.specs.Calls.{popped}
+use Rattle.heap.proofs.CodeChecked.{stopped-empty, passed-whole}
+use Rattle.heap.proofs.CodeCalls.{popped-is}
+use Rattle.heap.proofs.changing.pop.Statement.{statement}
+use Rattle.heap.proofs.changing.pop.Tie as tie
+
+examine-requires : tie.Need-examine-requires
+examine-requires c κs = search needs
+
+same-length : tie.Need-same-length
+same-length c = search needs
+
+same-length-2 : tie.Need-same-length-2
+same-length-2 c = search needs
+
+same-length-3 : tie.Need-same-length-3
+same-length-3 c = search needs
+
+same-length-4 : tie.Need-same-length-4
+same-length-4 c = search needs
+
+returns : tie.Need-returns
+unfolding popped
+returns c = stopped-empty _ _ (c .before .examine .ensures) _ (c .if1 .taken)
+
+-- past the examination the pool is sound
+whole : (c : tie.Else1) → let x = c .before .before .before .before .before .before .before .before .before .before .args in Whole (worldOf (x .state) (x .keys .now) (x .values .now) (x .next .now) (x .back .now))
+whole c = passed-whole _ _ (c .before .examine .ensures) (record { firsts = search needs; lasts = search needs }) (c .if1 .left)
+
+pop-requires : tie.Need-pop-requires
+pop-requires c κs = whole-ready (whole (c .before .before .before .before .before .before .before .before))
+
+same-length-5 : tie.Need-same-length-5
+same-length-5 c = search needs
+
+same-length-6 : tie.Need-same-length-6
+same-length-6 c = search needs
+
+same-length-7 : tie.Need-same-length-7
+same-length-7 c = search needs
+
+same-length-8 : tie.Need-same-length-8
+same-length-8 c = search needs
+
+returns-2 : tie.Need-returns-2
+returns-2 c = popped-is (whole (c .before .before .before .before .before .before .before .before .before .before .before .before .before .before .before .before .before .before)) (c .before .before .before .before .before .before .before .before .before .pop .ensures)
+
+pub pop-spec : {M : Type 1} → statement M
+pop-spec =
+    tie.close
+    (tie.spec
+    examine-requires
+    same-length
+    same-length-2
+    same-length-3
+    same-length-4
+    returns
+    pop-requires
+    same-length-5
+    same-length-6
+    same-length-7
+    same-length-8
+    returns-2)

@@ -1,0 +1,177 @@
+// The calls that change a heap: push, pop, constrain, clear and clear_to.
+use crate::answers::Answer;
+use crate::answers::Moves;
+use crate::answers::Popped;
+use pool::State;
+ghost use mathlib.Core.Path.{_≡_};
+ghost use mathlib.Core.Bool.{false};
+ghost use lib.Dec.{eqb};
+ghost use Rattle.pool.specs.World.{worldOf};
+ghost use Rattle.engine.specs.Outcome.{answered};
+ghost use Rattle.heap.specs.Calls.{pushed, popped, constrained, cleared, clearedTo};
+
+// Takes an entry. Code 5 for a second key word in kinds 1 to 3, 6 for a key above the top, 7 for no
+// free slot.
+pub fn push(
+    state: State,
+    keys: &mut [u64],
+    values: &mut [u64],
+    next: &mut [u32],
+    back: &mut [u32],
+    key0: u64,
+    key1: u64,
+    value: u64,
+) -> Answer
+    ensures { λ r. ⌜ answered (r .code) (worldOf (r .state) (now (keys .exit)) (now (values .exit)) (now (next .exit)) (now (back .exit))) 0 false 0 0 0 0 ≡ pushed (worldOf state (now (keys .entry)) (now (values .entry)) (now (next .entry)) (now (back .entry))) key0 key1 value ⌝ }
+{
+    let code = pool::examine(state, keys, values, next, back);
+    if code != 0 {
+        return Answer { code, state };
+    }
+    let mut first = state.first;
+    let mut last = state.last;
+    let r = engine::push(
+        state.head,
+        &mut first,
+        &mut last,
+        keys,
+        values,
+        next,
+        back,
+        key0,
+        key1,
+        value,
+    );
+    let head = r.head;
+    Answer {
+        code: r.code,
+        state: State { head, first, last },
+    }
+}
+
+// Gives out the greatest key, among equals the last pushed. Code 8 for an empty heap.
+pub fn pop(
+    state: State,
+    keys: &mut [u64],
+    values: &mut [u64],
+    next: &mut [u32],
+    back: &mut [u32],
+) -> Popped
+    ensures { λ r. ⌜ answered (r .code) (worldOf (r .state) (now (keys .exit)) (now (values .exit)) (now (next .exit)) (now (back .exit))) (r .moves) (eqb (r .code) 0) (r .key0) (r .key1) (r .value) 0 ≡ popped (worldOf state (now (keys .entry)) (now (values .entry)) (now (next .entry)) (now (back .entry))) ⌝ }
+{
+    let code = pool::examine(state, keys, values, next, back);
+    if code != 0 {
+        return Popped {
+            code,
+            state,
+            moves: 0,
+            key0: 0,
+            key1: 0,
+            value: 0,
+        };
+    }
+    let mut first = state.first;
+    let mut last = state.last;
+    let r = engine::pop(state.head, &mut first, &mut last, keys, values, next, back);
+    let head = r.head;
+    Popped {
+        code: r.code,
+        state: State { head, first, last },
+        moves: r.moves,
+        key0: r.key0,
+        key1: r.key1,
+        value: r.value,
+    }
+}
+
+// Makes the greatest key the top, if there is an entry.
+pub fn constrain(
+    state: State,
+    keys: &[u64],
+    values: &[u64],
+    next: &mut [u32],
+    back: &mut [u32],
+) -> Moves
+    ensures { λ r. ⌜ answered (r .code) (worldOf (r .state) (now (keys .entry)) (now (values .entry)) (now (next .exit)) (now (back .exit))) (r .moves) false 0 0 0 0 ≡ constrained (worldOf state (now (keys .entry)) (now (values .entry)) (now (next .entry)) (now (back .entry))) ⌝ }
+{
+    let code = pool::examine(state, keys, values, next, back);
+    if code != 0 {
+        return Moves {
+            code,
+            state,
+            moves: 0,
+        };
+    }
+    let mut first = state.first;
+    let mut last = state.last;
+    let r = engine::constrain(state.head, &mut first, &mut last, keys, next, back);
+    let head = r.head;
+    Moves {
+        code: 0,
+        state: State { head, first, last },
+        moves: r.moves,
+    }
+}
+
+// Drops every entry and the top.
+pub fn clear(
+    state: State,
+    keys: &mut [u64],
+    values: &mut [u64],
+    next: &mut [u32],
+    back: &mut [u32],
+) -> Moves
+    ensures { λ r. ⌜ answered (r .code) (worldOf (r .state) (now (keys .exit)) (now (values .exit)) (now (next .exit)) (now (back .exit))) (r .moves) false 0 0 0 0 ≡ cleared (worldOf state (now (keys .entry)) (now (values .entry)) (now (next .entry)) (now (back .entry))) ⌝ }
+{
+    let code = pool::examine(state, keys, values, next, back);
+    if code != 0 {
+        return Moves {
+            code,
+            state,
+            moves: 0,
+        };
+    }
+    pool::lay_fresh(keys, values, next, back);
+    let kind = state.head.kind;
+    Moves {
+        code: 0,
+        state: pool::fresh_state(kind, next.len() as u32, false, 0, 0),
+        moves: 0,
+    }
+}
+
+// Drops every entry and makes this key the top. Code 5 for a second key word in kinds 1 to 3.
+pub fn clear_to(
+    state: State,
+    keys: &mut [u64],
+    values: &mut [u64],
+    next: &mut [u32],
+    back: &mut [u32],
+    key0: u64,
+    key1: u64,
+) -> Moves
+    ensures { λ r. ⌜ answered (r .code) (worldOf (r .state) (now (keys .exit)) (now (values .exit)) (now (next .exit)) (now (back .exit))) (r .moves) false 0 0 0 0 ≡ clearedTo (worldOf state (now (keys .entry)) (now (values .entry)) (now (next .entry)) (now (back .entry))) key0 key1 ⌝ }
+{
+    let code = pool::examine(state, keys, values, next, back);
+    if code != 0 {
+        return Moves {
+            code,
+            state,
+            moves: 0,
+        };
+    }
+    let kind = state.head.kind;
+    if !keys::well_formed(kind, key1) {
+        return Moves {
+            code: 5,
+            state,
+            moves: 0,
+        };
+    }
+    pool::lay_fresh(keys, values, next, back);
+    Moves {
+        code: 0,
+        state: pool::fresh_state(kind, next.len() as u32, true, key0, key1),
+        moves: 0,
+    }
+}

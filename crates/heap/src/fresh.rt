@@ -1,0 +1,81 @@
+// The two fresh calls. They get no state, and the pool may hold anything.
+use crate::answers::Answer;
+use pool::Head;
+use pool::State;
+ghost use mathlib.Core.Path.{_≡_};
+ghost use mathlib.Core.Bool.{false};
+ghost use Rattle.pool.specs.World.{worldOf, noState};
+ghost use Rattle.engine.specs.Outcome.{answered};
+ghost use Rattle.heap.specs.Calls.{made, madeAt};
+
+// "A refused fresh returns a state all zero (kind 0)."
+fn no_state() -> State
+    ensures { λ r. ⌜ r ≡ noState ⌝ }
+{
+    let head = Head {
+        kind: 0,
+        len: 0,
+        topped: false,
+        top0: 0,
+        top1: 0,
+    };
+    State {
+        head,
+        first: [0; 131],
+        last: [0; 131],
+    }
+}
+
+// An empty heap with no top.
+pub fn new(
+    kind: u32,
+    keys: &mut [u64],
+    values: &mut [u64],
+    next: &mut [u32],
+    back: &mut [u32],
+) -> Answer
+    ensures { λ r. ⌜ answered (r .code) (worldOf (r .state) (now (keys .exit)) (now (values .exit)) (now (next .exit)) (now (back .exit))) 0 false 0 0 0 0 ≡ made kind (now (keys .entry)) (now (values .entry)) (now (next .entry)) (now (back .entry)) ⌝ }
+{
+    if !pool::fits(kind, keys.len(), values.len(), next.len(), back.len()) {
+        return Answer {
+            code: 1,
+            state: no_state(),
+        };
+    }
+    pool::lay_fresh(keys, values, next, back);
+    Answer {
+        code: 0,
+        state: pool::fresh_state(kind, next.len() as u32, false, 0, 0),
+    }
+}
+
+// An empty heap whose top is this key: no greater key will be taken.
+pub fn new_at(
+    kind: u32,
+    key0: u64,
+    key1: u64,
+    keys: &mut [u64],
+    values: &mut [u64],
+    next: &mut [u32],
+    back: &mut [u32],
+) -> Answer
+    ensures { λ r. ⌜ answered (r .code) (worldOf (r .state) (now (keys .exit)) (now (values .exit)) (now (next .exit)) (now (back .exit))) 0 false 0 0 0 0 ≡ madeAt kind key0 key1 (now (keys .entry)) (now (values .entry)) (now (next .entry)) (now (back .entry)) ⌝ }
+{
+    if !pool::fits(kind, keys.len(), values.len(), next.len(), back.len()) {
+        return Answer {
+            code: 1,
+            state: no_state(),
+        };
+    }
+    if !keys::well_formed(kind, key1) {
+        return Answer {
+            code: 5,
+            state: no_state(),
+        };
+    }
+    pool::lay_fresh(keys, values, next, back);
+    Answer {
+        code: 0,
+        state: pool::fresh_state(kind, next.len() as u32, true, key0, key1),
+    }
+}
