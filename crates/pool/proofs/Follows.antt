@@ -4,7 +4,7 @@ use mathlib.Core.Path.{_≡_, refl, sym, ap, _∙_, subst}
 use mathlib.Core.Logic.{_≢_, _↔_}
 use mathlib.Core.Bool.{Bool, true, false}
 use mathlib.Core.List.{List, [], _∷_, _++_}
-use mathlib.Core.Option.{none, some}
+use mathlib.Core.Option.{none}
 use Prim.Native.Nat.{ℕ, _+_, _*_, _≤_}
 use native.Mathlib.Omega.{arith}
 use lib.Dec.{eqb}
@@ -14,7 +14,7 @@ use Rattle.rule.specs.Lists.{join}
 use Rattle.rule.specs.Rule.{keep, bucketCount, Heap, empty, held, push as rulePush, constrain as ruleConstrain, pop as rulePop}
 use Rattle.keys.specs.Ordered.{width, words, ordered}
 use Rattle.pool.specs.Chain.{total}
-use Rattle.pool.specs.World.{waitingChain, freeChain, chainCount, World, size, firstOf, lastOf, chain, chains, keyAt, topKey, within}
+use Rattle.pool.specs.World.{waitingChain, freeChain, chainCount, World, size, lastOf, chain, chains, keyAt, topKey, within}
 use Rattle.pool.specs.Sound.{Typed, Fit, Sound, Whole, limit}
 use Rattle.pool.specs.Examine.{examined}
 use Rattle.pool.specs.Lay.{topIn, heapIn, heapOf, heap, withFree, lay, fresh}
