@@ -15,3 +15,4 @@ pub use popping::Taken;
 pub use popping::pop;
 pub use pushing::Entered;
 pub use pushing::push;
+pub use pushing::push_code;

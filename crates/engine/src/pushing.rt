@@ -14,7 +14,7 @@ pub struct Entered {
 }
 
 // The code of a push, where `free` is the link to the first free slot.
-fn push_code(head: Head, free: u32, key0: u64, key1: u64) -> u8
+pub fn push_code(head: Head, free: u32, key0: u64, key1: u64) -> u8
     ensures { λ r. ⌜ r ≡ pushCode head free key0 key1 ⌝ }
 {
     if !keys::well_formed(head.kind, key1) {

@@ -96,7 +96,7 @@ length-twos : (f g : ℕ → ℕ) (l : List ℕ) → length (join (map (λ s. f 
 length-twos f g [] = refl
 length-twos f g (s ∷ l) = let ih = length-twos f g l in omega arith
 
-sets-over : (new old : List ℕ) → length new ≤ length old → sets old 0 new ≡ over new old
+pub sets-over : (new old : List ℕ) → length new ≤ length old → sets old 0 new ≡ over new old
 unfolding over
 sets-over new old k = sets-eq new old 0 (subst (λ (n : ℕ). n ≤ length old) (sym (zero-add (length new))) k) ∙ ap (λ (n : ℕ). new ++ drop n old) (zero-add (length new))
 

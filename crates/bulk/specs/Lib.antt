@@ -1,0 +1,3 @@
+pub mod Bulk
+pub mod Wide
+pub mod Core

@@ -1,0 +1,16 @@
+// Bulk push: many entries at once, all or none.
+//
+// `extend_wide` takes any state and any slices, and has no `requires`. Every entry is tested before the
+// first is pushed, so a refusal leaves the pool as it was. What it gives is one equation, by `extended`
+// of specs/Bulk.antt.
+mod wide;
+
+pub use wide::Extended;
+pub use wide::extend_wide;
+
+// An entry: its key words and its value. In kinds 1 to 3 the second word is 0.
+pub struct Entry {
+    pub key0: u64,
+    pub key1: u64,
+    pub value: u64,
+}

@@ -1,0 +1,84 @@
+// Bulk pushes at work: one that is taken, and one for each code by which an entry is refused.
+mod sample;
+
+use sample::Sample;
+
+struct Ran {
+    code: u8,
+    place: usize,
+    after: Sample,
+}
+
+// Three entries that lie in three slices.
+fn run_wide(s: Sample, keys0: [u64; 3], keys1: [u64; 3], entries: [u64; 3]) -> Ran {
+    let mut keys = s.keys;
+    let mut values = s.values;
+    let mut next = s.next;
+    let mut back = s.back;
+    let r = bulk::extend_wide(
+        s.state,
+        &mut keys,
+        &mut values,
+        &mut next,
+        &mut back,
+        &keys0,
+        &keys1,
+        &entries,
+    );
+    let state = r.state;
+    Ran {
+        code: r.code,
+        place: r.place,
+        after: Sample {
+            state,
+            keys,
+            values,
+            next,
+            back,
+        },
+    }
+}
+
+// What a call did to this pool.
+fn show(text: &[u8], before: Sample, r: Ran) {
+    io::write_all(1, text);
+    if r.code == 0 {
+        io::write_all(1, b": taken\n");
+        return;
+    }
+    io::write_all(1, b": code ");
+    io::print_decimal(1, r.code as u64);
+    io::write_all(1, b", place ");
+    io::print_decimal(1, r.place as u64);
+    if sample::same(before, r.after) {
+        io::write_all(1, b", pool unchanged\n");
+    } else {
+        io::write_all(1, b", pool changed\n");
+    }
+}
+
+fn wide() {
+    let s = sample::fresh();
+    let r = run_wide(s, [3, 9, 7], [0, 0, 0], [30, 90, 70]);
+    let full = r.after;
+    show(b"three entries", s, r);
+    show(
+        b"refused in the middle, above the top",
+        full,
+        run_wide(full, [1, 11, 2], [0, 0, 0], [1, 2, 3]),
+    );
+    show(
+        b"refused in the middle, no free slot",
+        full,
+        run_wide(full, [1, 2, 3], [0, 0, 1], [1, 2, 3]),
+    );
+    show(
+        b"refused in the middle, a second key word",
+        full,
+        run_wide(full, [1, 2, 11], [0, 1, 0], [1, 2, 3]),
+    );
+}
+
+fn main() {
+    wide();
+}
