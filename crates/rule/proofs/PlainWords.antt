@@ -19,10 +19,11 @@ module _ (B : ℕ) {E : Type 0} (key : E → ℕ) (n : ℕ) where
   after-keep old m e = elim (moves B key old m e) as (λ b. cond b e e ≡ e) [ true ↦ refl | false ↦ refl ]
 
   -- the rule's account without its moves
-  bare : Lined E → PlainServed E
+  unfoldable pub bare : Lined E → PlainServed E
   bare l = record { heap = l .heap; answer = l .answer }
 
-  line-tells : (old : Option ℕ) (es : List E) (c : Call E) → bare (line B key keep n old es c) ≡ plainServe key n (record { top = old; held = es }) c
+  -- and that is the plain list's
+  pub line-tells : (old : Option ℕ) (es : List E) (c : Call E) → bare (line B key keep n old es c) ≡ plainServe key n (record { top = old; held = es }) c
   unfolding bare line lined plainServe plainServed swept-list popped-list
   line-tells old es (Push e) = go (refusal n old (length es) (key e))
     where
