@@ -5,7 +5,7 @@
 // read error it serves what it got.
 
 // One byte with a code.
-fn tell(code: u8) {
+pub fn tell(code: u8) {
     let byte = [code];
     io::write_all(1, &byte);
 }
@@ -22,8 +22,9 @@ fn tell_all(code: u8, count: usize, answers: &[u8]) {
     }
 }
 
-// Runs the records on a fresh heap, and writes the answers.
-fn serve(
+// Runs the records on a fresh heap of this kind, and writes the answers.
+pub fn serve(
+    kind: u32,
     keys: &mut [u64],
     values: &mut [u64],
     next: &mut [u32],
@@ -31,7 +32,7 @@ fn serve(
     records: &[u8],
     answers: &mut [u8],
 ) {
-    let h = heap::new(3, keys, values, next, back);
+    let h = heap::new(kind, keys, values, next, back);
     let b = batch::run(h.state, keys, values, next, back, records, answers);
     tell_all(b.code, b.count, answers);
 }
@@ -44,6 +45,7 @@ fn serve_input(records: &[u8]) {
     let mut back = [0; 256];
     let mut answers = [0; 20480];
     serve(
+        3,
         &mut keys,
         &mut values,
         &mut next,
