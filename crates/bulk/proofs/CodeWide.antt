@@ -7,18 +7,18 @@ use native.Mathlib.Omega.{arith}
 use native.Mathlib.Numerals.{add-one}
 use lib.ListN.{length, getD, drop, drop-of-length-le}
 use lib.Seq.{drop-cons}
-use Rattle.pool.specs.declared.state.Head.{Head}
-use Rattle.pool.specs.World.{World, size}
+use Rattle.pool.specs.World.{World}
 use Rattle.pool.specs.Sound.{Whole}
 use Rattle.pool.specs.Examine.{examined}
 use Rattle.engine.specs.Outcome.{Outcome}
-use Rattle.engine.specs.Core.{pushCode, pushCore}
+use Rattle.engine.specs.Core.{pushCore}
 use Rattle.heap.proofs.Calls.{push-core, push-whole}
 use Rattle.bulk.specs.declared.Entry.{Entry}
-use Rattle.bulk.specs.Bulk.{Bulk, bulk, extend, bulkUnless, extended}
+use Rattle.bulk.specs.declared.steps.Gauge.{Gauge}
+use Rattle.bulk.specs.Bulk.{bulk, extend, bulkUnless, extended}
 use Rattle.bulk.specs.Wide.{entry, zipped}
-use Rattle.bulk.specs.Core.{Found, found, tested, pushAll}
-use Rattle.bulk.proofs.Each.{tested-by, all-by}
+use Rattle.bulk.specs.Core.{noEntry, testOne, testEach, pushAll}
+use Rattle.bulk.proofs.Each.{all-by}
 
 -- ---- three slices
 
@@ -43,7 +43,7 @@ le-many (a ∷ hs) [] vs = (zero-le, zero-le, zero-le)
 le-many (a ∷ hs) (b ∷ ks) [] = (zero-le, zero-le, zero-le)
 le-many (a ∷ hs) (b ∷ ks) (v ∷ vs) = let l = le-many hs ks vs in (omega (arith, l .0), omega (arith, l .1), omega (arith, l .2))
 
-getD-zipped : (hs ks vs : List ℕ) (i : ℕ) → i < length (zipped hs ks vs) → getD (zipped hs ks vs) i (entry 0 0 0) ≡ entry (getD hs i 0) (getD ks i 0) (getD vs i 0)
+getD-zipped : (hs ks vs : List ℕ) (i : ℕ) → i < length (zipped hs ks vs) → getD (zipped hs ks vs) i noEntry ≡ entry (getD hs i 0) (getD ks i 0) (getD vs i 0)
 unfolding zipped
 getD-zipped [] ks vs i l = absurd (omega arith)
 getD-zipped (a ∷ hs) [] vs i l = absurd (omega arith)
@@ -68,38 +68,21 @@ module _ (hs ks vs : List ℕ) where
 
   -- the entries from i on
   next-entry : (i : ℕ) → i < length (zipped hs ks vs) → drop i (zipped hs ks vs) ≡ entry (getD hs i 0) (getD ks i 0) (getD vs i 0) ∷ drop (i + 1) (zipped hs ks vs)
-  next-entry i l = drop-cons (zipped hs ks vs) i (entry 0 0 0) l
+  next-entry i l = drop-cons (zipped hs ks vs) i noEntry l
       ∙ ap (λ (e : Entry). e ∷ drop (suc i) (zipped hs ks vs)) (getD-zipped hs ks vs i l)
       ∙ ap (λ (k : ℕ). entry (getD hs i 0) (getD ks i 0) (getD vs i 0) ∷ drop k (zipped hs ks vs)) (sym (add-one i))
 
-  -- ---- the test
+  -- ---- a turn of each loop
 
-  module _ (h : Head) (left i c : ℕ) (told : c ≡ pushCode h left (getD hs i 0) (getD ks i 0)) where
-    tested-next : i < length (zipped hs ks vs) → tested h left i (drop i (zipped hs ks vs)) ≡ (elim c as (λ x. Found) [ zero ↦ tested h (left - 1) (suc i) (drop (i + 1) (zipped hs ks vs)) | suc c ↦ found (suc c) i ])
-    tested-next l = ap (tested h left i) (next-entry i l) ∙ tested-by (entry (getD hs i 0) (getD ks i 0) (getD vs i 0)) (drop (i + 1) (zipped hs ks vs)) h left i c (sym told)
-
-    pub test-turn : i < length (zipped hs ks vs) → c ≡ 0 → tested h left i (drop i (zipped hs ks vs)) ≡ tested h (left - 1) (i + 1) (drop (i + 1) (zipped hs ks vs))
-    test-turn l z = tested-next l ∙ ap (λ (x : ℕ). elim x as (λ y. Found) [ zero ↦ tested h (left - 1) (suc i) (drop (i + 1) (zipped hs ks vs)) | suc c ↦ found (suc c) i ]) z
-        ∙ ap (λ (k : ℕ). tested h (left - 1) k (drop (i + 1) (zipped hs ks vs))) (sym (add-one i))
-
-    pub test-stop : i < length (zipped hs ks vs) → (c ≡ 0 → ⊥) → found c i ≡ tested h left i (drop i (zipped hs ks vs))
-    test-stop l n = go c n ∙ sym (tested-next l)
-      where
-        go : (c : ℕ) → (c ≡ 0 → ⊥) → found c i ≡ (elim c as (λ x. Found) [ zero ↦ tested h (left - 1) (suc i) (drop (i + 1) (zipped hs ks vs)) | suc c ↦ found (suc c) i ])
-        go zero z = absurd (z refl)
-        go (suc c) z = refl
-
-  -- ---- the pushes
+  pub test-turn : (g : Gauge) (i : ℕ) → i < length (zipped hs ks vs) → testEach i g (drop i (zipped hs ks vs)) ≡ testEach (i + 1) (testOne g i (getD hs i 0) (getD ks i 0)) (drop (i + 1) (zipped hs ks vs))
+  unfolding testEach
+  test-turn g i l = ap (testEach i g) (next-entry i l)
 
   -- with what the call gave
   pub push-turn : {w : World} → Whole w → (i : ℕ) (o : Outcome) → i < length (zipped hs ks vs) → o ≡ pushCore w (getD hs i 0) (getD ks i 0) (getD vs i 0)
       → pushAll w (drop i (zipped hs ks vs)) ≡ pushAll (o .world) (drop (i + 1) (zipped hs ks vs))
   push-turn {w} h i o l e = ap (pushAll w) (next-entry i l) ∙ all-by (entry (getD hs i 0) (getD ks i 0) (getD vs i 0)) (drop (i + 1) (zipped hs ks vs)) h
       ∙ ap (λ (x : Outcome). pushAll (x .world) (drop (i + 1) (zipped hs ks vs))) (sym (e ∙ push-core h (getD hs i 0) (getD ks i 0) (getD vs i 0)))
-
-pub test-end : (h : Head) (left i : ℕ) (es : List Entry) → length es ≤ i → found 0 0 ≡ tested h left i (drop i es)
-unfolding tested
-test-end h left i es l = ap (tested h left i) (sym (drop-of-length-le es l))
 
 pub push-end : (w : World) (i : ℕ) (es : List Entry) → length es ≤ i → w ≡ pushAll w (drop i es)
 unfolding pushAll

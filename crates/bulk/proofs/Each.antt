@@ -1,6 +1,6 @@
 -- On a sound world the test of every entry answers as single pushes in order would, and pushes of entries that pass it all succeed.
-use mathlib.Core.Path.{_≡_, refl, sym, ap, _∙_, subst}
-use mathlib.Core.Logic.{_⊎_, inl, inr, ⊎-elim}
+use mathlib.Core.Path.{_≡_, refl, sym, ap, _∙_}
+use mathlib.Core.Logic.{_⊎_, inl, inr}
 use mathlib.Core.Bool.{Bool, true, false, cond}
 use mathlib.Core.List.{List, [], _∷_}
 use Prim.Native.Nat.{ℕ, zero, suc, _+_, _-_}
@@ -12,15 +12,29 @@ use Rattle.keys.specs.Ordered.{ordered, wellFormed}
 use Rattle.pool.specs.declared.state.Head.{Head}
 use Rattle.pool.specs.World.{freeChain, World, resized, topKey, size, chain, within}
 use Rattle.pool.specs.Sound.{Whole}
-use Rattle.pool.specs.Examine.{examined}
 use Rattle.pool.proofs.Follows.{examined-whole, free-len}
 use Rattle.engine.specs.Outcome.{Outcome, refused, done}
-use Rattle.engine.specs.Core.{pushCode, pushCore}
+use Rattle.engine.specs.Core.{pushCode}
 use Rattle.heap.specs.Calls.{push, pushInto}
 use Rattle.heap.proofs.Calls.{push-5, push-6, push-free, push-follows, push-core, push-whole}
 use Rattle.bulk.specs.declared.Entry.{Entry}
 use Rattle.bulk.specs.Bulk.{Bulk, bulk, pushEach, kept, extend, bulkUnless, extended}
-use Rattle.bulk.specs.Core.{Found, found, tested, pushAll}
+use Rattle.bulk.specs.Core.{pushAll}
+
+-- ---- the test
+
+-- the code and the place of the first entry that is refused, or 0 and 0
+pub record Found : Type 0 where
+  pub code : ℕ
+  pub place : ℕ
+
+abbrev pub found : ℕ → ℕ → Found
+found code place = record { code = code; place = place }
+
+-- entries from place i on, where so many slots are free: a push changes neither kind nor top, and takes one slot
+unfoldable pub tested : Head → ℕ → ℕ → List Entry → Found
+tested h free i [] = found 0 0
+tested h free i (e ∷ es) = elim (pushCode h free (e .key0) (e .key1)) [ zero ↦ tested h (free - 1) (suc i) es | suc c ↦ found (suc c) i ]
 
 -- ---- one entry
 

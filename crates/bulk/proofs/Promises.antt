@@ -1,5 +1,5 @@
 -- What a reader may take from `extended`: a refusal changes nothing, a sound world stays sound, and what is taken is what single public pushes in order would do.
-use mathlib.Core.Path.{_≡_, refl, sym, ap, _∙_, subst}
+use mathlib.Core.Path.{_≡_, refl, sym, ap, _∙_}
 use mathlib.Core.Logic.{_≢_}
 use mathlib.Core.List.{List, [], _∷_}
 use Prim.Native.Nat.{ℕ, zero, suc}

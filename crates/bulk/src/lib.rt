@@ -1,10 +1,13 @@
 // Bulk push: many entries at once, all or none.
 //
-// `extend_wide` takes any state and any slices, and has no `requires`. Every entry is tested before the
-// first is pushed, so a refusal leaves the pool as it was. What it gives is one equation, by `extended`
-// of specs/Bulk.antt.
+// Both calls take any state and any slices, and have no `requires`. Every entry is tested before the
+// first is pushed, so a refusal leaves the pool as it was. What a call gives is one equation, by
+// `extended` of specs/Bulk.antt.
+mod ordered;
+mod steps;
 mod wide;
 
+pub use ordered::extend;
 pub use wide::Extended;
 pub use wide::extend_wide;
 

@@ -1,6 +1,8 @@
 // Bulk pushes at work: one that is taken, and one for each code by which an entry is refused.
+mod door;
 mod sample;
 
+use bulk::Entry;
 use sample::Sample;
 
 struct Ran {
@@ -24,6 +26,53 @@ fn run_wide(s: Sample, keys0: [u64; 3], keys1: [u64; 3], entries: [u64; 3]) -> R
         &keys0,
         &keys1,
         &entries,
+    );
+    let state = r.state;
+    Ran {
+        code: r.code,
+        place: r.place,
+        after: Sample {
+            state,
+            keys,
+            values,
+            next,
+            back,
+        },
+    }
+}
+
+fn three(keys0: [u64; 3], keys1: [u64; 3], values: [u64; 3]) -> [Entry; 3] {
+    let a = Entry {
+        key0: keys0[0],
+        key1: keys1[0],
+        value: values[0],
+    };
+    let b = Entry {
+        key0: keys0[1],
+        key1: keys1[1],
+        value: values[1],
+    };
+    let c = Entry {
+        key0: keys0[2],
+        key1: keys1[2],
+        value: values[2],
+    };
+    [a, b, c]
+}
+
+// Three entries in a list.
+fn run_list(s: Sample, entries: [Entry; 3]) -> Ran {
+    let mut keys = s.keys;
+    let mut values = s.values;
+    let mut next = s.next;
+    let mut back = s.back;
+    let r = door::extend_three(
+        s.state,
+        &mut keys,
+        &mut values,
+        &mut next,
+        &mut back,
+        entries,
     );
     let state = r.state;
     Ran {
@@ -79,6 +128,29 @@ fn wide() {
     );
 }
 
+fn list() {
+    let s = sample::fresh();
+    let r = run_list(s, three([3, 9, 7], [0, 0, 0], [30, 90, 70]));
+    let full = r.after;
+    show(b"a list of three entries", s, r);
+    show(
+        b"a list refused in the middle, above the top",
+        full,
+        run_list(full, three([1, 11, 2], [0, 0, 0], [1, 2, 3])),
+    );
+    show(
+        b"a list refused in the middle, no free slot",
+        full,
+        run_list(full, three([1, 2, 3], [0, 0, 1], [1, 2, 3])),
+    );
+    show(
+        b"a list refused in the middle, a second key word",
+        full,
+        run_list(full, three([1, 2, 11], [0, 1, 0], [1, 2, 3])),
+    );
+}
+
 fn main() {
     wide();
+    list();
 }

@@ -1,9 +1,9 @@
--- `bulk_main::sample::same_links` runs to an end within its slices: the loop's index is at most the length. It promises nothing.
+-- `examples_bulk::sample::same_links` runs to an end within its slices: the loop's index is at most the length. It promises nothing.
 use Prim.Native.Nat.{_≤_, _-_}
 use borrow.Author.Needs.{needs}
 use lib.ListN.{length}
-use Rattle.bulk_main.proofs.sample.same_links.Statement.{statement}
-use Rattle.bulk_main.proofs.sample.same_links.Tie as tie
+use Rattle.examples_bulk.proofs.sample.same_links.Statement.{statement}
+use Rattle.examples_bulk.proofs.sample.same_links.Tie as tie
 
 abbrev Inv-loop : tie.InvT-loop
 Inv-loop a b i₀ i = i ≤ length a
