@@ -1,7 +1,7 @@
 -- On a sound world what the core does is what document 01 says, and leaves a sound world.
 use mathlib.Core.Path.{_≡_, refl, sym, ap, _∙_, subst}
 use mathlib.Core.Logic.{_≢_}
-use mathlib.Core.Bool.{Bool, true, false, cond, not, true≢false}
+use mathlib.Core.Bool.{Bool, true, false, cond, true≢false}
 use mathlib.Core.List.{List, [], _∷_}
 use mathlib.Core.Option.{none, some}
 use Prim.Native.Nat.{ℕ, suc, _+_, _-_, _≤_}
@@ -13,7 +13,7 @@ use lib.ListN.{getD, set}
 use Rattle.rule.specs.Rule.{keep, empty, push as rulePush, constrain as ruleConstrain, pop as rulePop}
 use Rattle.pool.specs.Chain.{Linked}
 use Rattle.keys.specs.Ordered.{width, ordered, wellFormed}
-use Rattle.pool.specs.World.{freeChain, World, resized, storeKey, size, firstOf, lastOf, chain, chains, keyAt, topKey, within}
+use Rattle.pool.specs.World.{freeChain, World, resized, storeKey, size, firstOf, lastOf, chain, keyAt, topKey, within}
 use Rattle.pool.specs.Sound.{Whole}
 use Rattle.pool.specs.Lay.{topIn, heap, fresh}
 use Rattle.engine.specs.Outcome.{Outcome, refused, done, given, unless}

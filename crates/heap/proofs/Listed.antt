@@ -15,15 +15,14 @@ use Rattle.rule.specs.Rule.{held}
 use Rattle.pool.specs.Chain.{total, Linked}
 use Rattle.keys.specs.Ordered.{words}
 use Rattle.pool.specs.World.{waitingChain, chainCount, World, keyWord0, keyWord1, word0, word1, chains, firstOf}
-use Rattle.pool.specs.Sound.{Typed, Whole}
-use Rattle.pool.specs.Examine.{examined}
+use Rattle.pool.specs.Sound.{Whole}
 use Rattle.pool.specs.Lay.{heap, heapIn}
-use Rattle.engine.specs.Outcome.{Listing, listing, roomFor, listUnless}
-use Rattle.heap.specs.Calls.{over, wordsAt, list, listed}
+use Rattle.engine.specs.Outcome.{Listing, listing, roomFor}
+use Rattle.heap.specs.Calls.{over, wordsAt, list}
 use Rattle.engine.specs.Core.{Written, written, listFrom, listChain, listChains, listEntries, listAll, listCore}
 use Rattle.pool.proofs.Chains.{length-join}
 use Rattle.pool.proofs.Keys.{store-wide, store-slim}
-use Rattle.pool.proofs.Follows.{whole-good, examined-whole, held-len}
+use Rattle.pool.proofs.Follows.{whole-good, held-len}
 
 module _ (kind : ℕ) (keys values : List ℕ) where
   -- the slots are written one after the other
@@ -120,11 +119,6 @@ room-enough kind len ks vs e =
     both true false q = absurd (true≢false (sym q))
     both false y q = absurd (true≢false (sym q))
 
-same-list : (c : ℕ) (w : World) (ks vs : List ℕ) (l m : Listing) → (c ≡ 0 → l ≡ m) → listUnless c w ks vs l ≡ listUnless c w ks vs m
-unfolding listUnless
-same-list zero w ks vs l m f = f refl
-same-list (suc c) w ks vs l m f = refl
-
 module _ {w : World} (h : Whole w) (ks vs : List ℕ) where
   start : Written
   start = record { keys = ks; values = vs; count = 0 }
@@ -198,11 +192,3 @@ module _ {w : World} (h : Whole w) (ks vs : List ℕ) where
       go true e =
           let r = room-enough (w .head .kind) (w .head .len) (length ks) (length vs) e in
           core-by true e ∙ (λ i. listing 0 w (keys-is (r .0) (r .1) (eqb (w .head .kind) 4) refl i) (values-is (r .0) (r .1) i) (w .head .len)) ∙ sym (list-by true e)
-
--- the public call, in arrays of the types' sizes
-pub listed-core : (w : World) → Typed (w .links) → (ks vs : List ℕ) → listUnless (examined w) w ks vs (listCore w ks vs) ≡ listed w ks vs
-unfolding listed
-listed-core w t ks vs = go (examined w) (λ e. list-core (examined-whole w t .0 e) ks vs)
-  where
-    go : (c : ℕ) → (c ≡ 0 → listCore w ks vs ≡ list w ks vs) → listUnless c w ks vs (listCore w ks vs) ≡ listUnless c w ks vs (list w ks vs)
-    go c f = same-list c w ks vs (listCore w ks vs) (list w ks vs) f

@@ -1,4 +1,5 @@
--- The public calls: any call on any world that refuses changes nothing, a sound world stays sound, and the core does what document 01 says.
+-- The public calls: any call on any world that refuses changes nothing, a sound world passes the examination, and the core does what
+-- document 01 says.
 use mathlib.Core.Path.{_≡_, refl, sym, ap, ap₂, _∙_, subst}
 use mathlib.Core.Logic.{_≢_}
 use mathlib.Core.Bool.{Bool, true, false, true≢false}
@@ -8,19 +9,19 @@ use Prim.Native.Nat.{ℕ, zero, suc}
 use lib.ListN.{length, getD}
 use Rattle.rule.specs.Lists.{join}
 use Rattle.rule.specs.Rule.{keep, Step, empty, held, pop as rulePop}
-use Rattle.keys.specs.Ordered.{width, words, ordered, wellFormed}
+use Rattle.keys.specs.Ordered.{width, ordered, wellFormed}
 use Rattle.pool.specs.World.{freeChain, blank, World, size, chain, keyAt, topKey, within}
 use Rattle.pool.specs.Sound.{Typed, Fit, Whole}
 use Rattle.pool.specs.Examine.{examined, fitting}
 use Rattle.pool.specs.Lay.{topIn, heap, fresh}
 use Rattle.engine.specs.Outcome.{Outcome, Listing, listing, roomFor, listUnless, refused, done, given, unless, checked}
-use Rattle.pool.specs.Core.{movedTo, constrainCore, freshCore}
-use Rattle.engine.specs.Core.{pushCore, popCore, clearCore, clearToCore, madeCore, madeAtCore}
+use Rattle.pool.specs.Core.{freshCore}
+use Rattle.engine.specs.Core.{clearCore, clearToCore, madeCore, madeAtCore}
 use Rattle.heap.specs.Calls.{pushInto, push, constrain, popOut, pop, clear, clearTo, top, len, pushed, popped, constrained, cleared, clearedTo, topRead, lenRead, made, madeAt, over, wordsAt, list, listed}
 use Rattle.pool.proofs.Exam.{fitting-fit}
 use Rattle.pool.proofs.FreshPool.{run}
 use Rattle.pool.proofs.Follows.{examined-whole, Follows, fresh-core, fresh-follows}
-use Rattle.heap.proofs.Calls.{well-formed-one, push-by, push-core, push-whole, constrain-core, constrain-whole, pop-core, pop-whole, clear-core, clear-whole, clearTo-core, clearTo-whole, top-whole, len-whole}
+use Rattle.heap.proofs.Calls.{well-formed-one, push-by, clear-core, clearTo-core}
 
 -- ---- refused-changes-nothing
 
@@ -158,46 +159,9 @@ refused-changes-nothing = record {
   list = λ w ks vs. listed-fair w ks vs (examined w) (list w ks vs) (list-is-fair w ks vs);
 }
 
--- ---- a sound world stays sound
-
-whole-unless : (c : ℕ) {w : World} (o : Outcome) → Whole w → Whole (o .world) → Whole (unless c w o .world)
-unfolding unless refused
-whole-unless zero o h k = k
-whole-unless (suc c) o h k = h
+-- ---- a sound world passes
 
 module _ {w : World} (h : Whole w) where
-  stays : (o : Outcome) → Whole (o .world) → Whole (checked w o .world)
-  unfolding checked
-  stays o k = whole-unless (examined w) o h k
-
-  pub pushed-whole : (a b v : ℕ) → Whole (pushed w a b v .world)
-  unfolding pushed
-  pushed-whole a b v = stays (push w a b v) (push-whole h a b v)
-
-  pub popped-whole : Whole (popped w .world)
-  unfolding popped
-  popped-whole = stays (pop w) (pop-whole h)
-
-  pub constrained-whole : Whole (constrained w .world)
-  unfolding constrained
-  constrained-whole = stays (constrain w) (constrain-whole h)
-
-  pub cleared-whole : Whole (cleared w .world)
-  unfolding cleared
-  cleared-whole = stays (clear w) (clear-whole h)
-
-  pub clearedTo-whole : (a b : ℕ) → Whole (clearedTo w a b .world)
-  unfolding clearedTo
-  clearedTo-whole a b = stays (clearTo w a b) (clearTo-whole h a b)
-
-  pub topRead-whole : Whole (topRead w .world)
-  unfolding topRead
-  topRead-whole = stays (top w) (top-whole h)
-
-  pub lenRead-whole : Whole (lenRead w .world)
-  unfolding lenRead
-  lenRead-whole = stays (len w) (len-whole h)
-
   -- on a sound world a call is not stopped by the examination
   pub passes : (o : Outcome) → checked w o ≡ o
   unfolding checked unless
@@ -214,18 +178,6 @@ module _ (w : World) (t : Typed (w .links)) where
   alike : (o o′ : Outcome) → (Whole w → o ≡ o′) → checked w o ≡ checked w o′
   unfolding checked
   alike o o′ f = same-unless (examined w) w o o′ (λ e. f (examined-whole w t .0 e))
-
-  pub pushed-core : (a b v : ℕ) → checked w (pushCore w a b v) ≡ pushed w a b v
-  unfolding pushed
-  pushed-core a b v = alike (pushCore w a b v) (push w a b v) (λ h. push-core h a b v)
-
-  pub popped-core : checked w (popCore w) ≡ popped w
-  unfolding popped
-  popped-core = alike (popCore w) (pop w) pop-core
-
-  pub constrained-core : checked w (done (movedTo w (constrainCore (w .head) (w .links) (w .keys))) (constrainCore (w .head) (w .links) (w .keys) .moves)) ≡ constrained w
-  unfolding constrained
-  constrained-core = alike (done (movedTo w (constrainCore (w .head) (w .links) (w .keys))) (constrainCore (w .head) (w .links) (w .keys) .moves)) (constrain w) constrain-core
 
   pub cleared-core : checked w (clearCore w) ≡ cleared w
   unfolding cleared

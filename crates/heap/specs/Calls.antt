@@ -7,7 +7,7 @@ use lib.Dec.{eqb}
 use lib.ListN.{length, getD, set, drop}
 use Rattle.rule.specs.Lists.{join}
 use Rattle.rule.specs.Rule.{Step, keep, held, push as rulePush, constrain as ruleConstrain, pop as rulePop}
-use Rattle.keys.specs.Ordered.{width, words, ordered, wellFormed}
+use Rattle.keys.specs.Ordered.{width, ordered, wellFormed}
 use Rattle.pool.specs.World.{freeChain, World, blank, resized, storeKey, word0, word1, keyAt, topKey, size, chain, within}
 use Rattle.pool.specs.Lay.{heap, withFree, lay, fresh, headAfter}
 use Rattle.engine.specs.Outcome.{Outcome, Listing, listing, listUnless, roomFor, refused, done, given, checked}

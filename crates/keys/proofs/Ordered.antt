@@ -3,7 +3,7 @@
 use mathlib.Core.Path.{_≡_, refl, sym, ap, subst, _∙_}
 use mathlib.Core.Bool.{true}
 use mathlib.Core.Logic.{_≢_}
-use Prim.Native.Nat.{ℕ, _+_, _*_, _-_, _/_, _%_, _^_, _<_}
+use Prim.Native.Nat.{ℕ, _+_, _-_, _/_, _%_, _^_, _<_}
 use native.Mathlib.Nat.{mod-lt}
 use native.Mathlib.Decide.{ℕ-discrete}
 use native.Mathlib.Omega.{arith}
@@ -17,13 +17,9 @@ use Rattle.rule.proofs.Width.{pair-first, pair-second}
 use Rattle.keys.specs.Ordered.{width, words, ordered, orderedNumber, wellFormed}
 use Rattle.keys.proofs.Alike.{reverse-reverse, reverse-keeps, flip-flip, flip-keeps}
 use Rattle.keys.proofs.Order.{pair-fits, pair-order-first, pair-order-second, reverse-order}
-use Rattle.keys.proofs.Twos.{moved-fits, moved-order, moved-back, moved-injective}
+use Rattle.keys.proofs.Twos.{moved-order, moved-injective}
 
 -- ---- the table
-pub width-pair : width 4 ≡ 128
-unfolding width
-width-pair = refl
-
 pub width-word : (kind : ℕ) → kind ≢ 4 → width kind ≡ 64
 unfolding width
 width-word kind q = rw (ne-eqb kind 4 q)
@@ -36,25 +32,9 @@ pub words-word : (kind : ℕ) → kind ≢ 4 → words kind ≡ 1
 unfolding words
 words-word kind q = rw (ne-eqb kind 4 q)
 
-pub ordered-pair : (a b : ℕ) → ordered 4 a b ≡ a * 2 ^ 64 + b
-unfolding ordered
-ordered-pair a b = refl
-
-pub ordered-reversed : (a b : ℕ) → ordered 3 a b ≡ 2 ^ 64 - 1 - a
-unfolding ordered
-ordered-reversed a b = refl
-
-pub ordered-signed : (a b : ℕ) → ordered 2 a b ≡ (a + 2 ^ 63) % 2 ^ 64
-unfolding ordered
-ordered-signed a b = refl
-
 pub ordered-plain : (kind a b : ℕ) → kind ≢ 2 → kind ≢ 3 → kind ≢ 4 → ordered kind a b ≡ a
 unfolding ordered
 ordered-plain kind a b two three four = rw (ne-eqb kind 4 four, ne-eqb kind 3 three, ne-eqb kind 2 two)
-
-pub well-formed-pair : (b : ℕ) → wellFormed 4 b ≡ true
-unfolding wellFormed
-well-formed-pair b = refl
 
 pub well-formed-word : (kind b : ℕ) → kind ≢ 4 → wellFormed kind b ≡ eqb b 0
 unfolding wellFormed
@@ -149,14 +129,6 @@ module _ (y z : ℤ) (fy : mag y < 2 ^ 63) (fz : mag z < 2 ^ 63) where
   pub number-order : ltb (orderedNumber y) (orderedNumber z) ≡ ltZ y z
   unfolding orderedNumber
   number-order = moved-order (2 ^ 63) y z fy fz
-
-  pub number-injective : orderedNumber y ≡ orderedNumber z → y ≡ z
-  unfolding orderedNumber
-  number-injective e = moved-injective (pos (2 ^ 63)) y z (sym (moved-back (2 ^ 63) y fy) ∙ ap pos e ∙ moved-back (2 ^ 63) z fz)
-
-pub number-fits : (z : ℤ) → mag z < 2 ^ 63 → orderedNumber z < 2 ^ width 2
-unfolding orderedNumber width
-number-fits z f = moved-fits (2 ^ 63) z f
 
 -- a number has one word, and a word one number, so what turns one into the other has one answer
 pub one-word : (z : ℤ) {v w : ℕ} → v < 2 ^ 64 → w < 2 ^ 64 → z +ℤ pos (2 ^ 63) ≡ pos (ordered 2 v 0) → z +ℤ pos (2 ^ 63) ≡ pos (ordered 2 w 0) → v ≡ w

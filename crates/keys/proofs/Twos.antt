@@ -45,14 +45,6 @@ plain (negsuc n) t = absurd (subst T t tt)
 moved-up : (H n : ℕ) → n < H → natAbs (negsuc n +ℤ pos H) ≡ H - suc n
 moved-up H n l = ap natAbs (up H n l)
 
-pub moved-back : (H : ℕ) (z : ℤ) → mag z < H → pos (natAbs (z +ℤ pos H)) ≡ z +ℤ pos H
-moved-back H (pos n) l = refl
-moved-back H (negsuc n) l = ap pos (moved-up H n l) ∙ sym (up H n l)
-
-pub moved-fits : (H : ℕ) (z : ℤ) → mag z < H → natAbs (z +ℤ pos H) < H + H
-moved-fits H (pos n) l = omega arith
-moved-fits H (negsuc n) l = omega (arith, moved-up H n l)
-
 pub moved-order : (H : ℕ) (a b : ℤ) → mag a < H → mag b < H → ltb (natAbs (a +ℤ pos H)) (natAbs (b +ℤ pos H)) ≡ ltZ a b
 moved-order H (pos m) (pos n) f g = same-test (m + H) (n + H) m n (λ l. omega arith) (λ l. omega arith)
 moved-order H (pos m) (negsuc n) f g = le-ltb (m + H) (natAbs (negsuc n +ℤ pos H)) (omega (arith, moved-up H n g))

@@ -116,31 +116,6 @@ cut-fine false n s p f h = record {
   back = f .back;
 }
 
-pub freed-fine : (none : Bool) (n : ℕ) (s : Links) (i l : ℕ) → FineAt n s → l ≤ n → FineAt n (freed none s i l)
-unfolding freed
-freed-fine true n s i l f h = record {
-  small = f .small;
-  firsts = simp length-set (f .firsts);
-  lasts = simp length-set (f .lasts);
-  nexts = simp length-set (f .nexts);
-  backs = simp length-set (f .backs);
-  first = under-set _ _ (f .first) h;
-  last = under-set _ _ (f .last) h;
-  next = under-set _ _ (f .next) (f .first .at freeChain);
-  back = under-set _ _ (f .back) zero-le;
-}
-freed-fine false n s i l f h = record {
-  small = f .small;
-  firsts = simp length-set (f .firsts);
-  lasts = f .lasts;
-  nexts = simp length-set (f .nexts);
-  backs = simp length-set (f .backs);
-  first = under-set _ _ (f .first) h;
-  last = f .last;
-  next = under-set _ _ (f .next) (f .first .at freeChain);
-  back = under-set _ _ (f .back) zero-le;
-}
-
 pub emptied-fine : (n : ℕ) (s : Links) (c : ℕ) → FineAt n s → FineAt n (emptied s c)
 unfolding emptied
 emptied-fine n s c f = record {

@@ -103,10 +103,6 @@ module _ {w : World} {ls : List (List ℕ)} (g : Good w ls) {s : ℕ} (fs : List
   unfolding entered
   enter-word1 = store-word1-same (w .head .kind) (w .keys) s a b (size w) (g .fit .someKeys) e-inside one
 
-  pub enter-value : getD (entered w s a b v .values) s 0 ≡ v
-  unfolding entered
-  enter-value = getD-set-same (w .values) s v 0 (let k = e-inside in let l = g .fit .someValues in omega arith)
-
   e-home : (x : ℕ) → x ≢ s → home (entered w s a b v) x ≡ home w x
   unfolding entered
   e-home x n = ap₂ (λ (p q : ℕ). place (w .head .topped) (distance (width (w .head .kind)) (ordered (w .head .kind) p q) (topKey w))) (e-word0 x n) (e-word1 x n)

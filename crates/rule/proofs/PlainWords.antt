@@ -76,7 +76,7 @@ module _ (B : ℕ) (small : B < bucketCount) {E : Type 0} (key : E → ℕ) (n :
       subst (λ (t : PlainServed E). let h = plainAfter key n (t .heap) cs in Fits B key (h .top) (h .held)) (line-tells B key n old es c)
       (fits-after _ _ (fits-line B small key keep (λ t e. refl) n old es f c w) cs ws)
 
-  last-greatest : (old : Option ℕ) (es : List E) → LastGreatest key es (plainServe key n (record { top = old; held = es }) Pop .answer .given)
+  pub last-greatest : (old : Option ℕ) (es : List E) → LastGreatest key es (plainServe key n (record { top = old; held = es }) Pop .answer .given)
   unfolding plainServe plainServed
   last-greatest old [] = refl
   last-greatest old (e ∷ es) = (pick key e es, refl, picked key e es)
