@@ -18,10 +18,12 @@ use Rattle.pool.proofs.Follows.{examined-whole}
 use Rattle.engine.specs.Outcome.{Outcome, refused}
 use Rattle.heap.specs.Calls.{push, pop, constrain, clear, clearTo, top, len, pushed, popped, constrained, cleared, clearedTo, topRead, lenRead, over}
 use Rattle.heap.proofs.Public.{passes}
+use Rattle.heap.proofs.Determined.{Pool, over as worldWith, stateIn, poolIn}
 use Rattle.batch.specs.declared.records.Record.{Record}
+use Rattle.batch.specs.declared.runs.Batch.{Batch}
 use Rattle.batch.specs.Bytes.{writtenAt}
 use Rattle.batch.specs.Records.{recordAt, recordsFrom, formed}
-use Rattle.batch.specs.Batch.{operated, served, answerOf, worldAfter, answersOf, called, worldCalled, answersCalled, batched, records, batchCode, ran, batchUnless, batch}
+use Rattle.batch.specs.Batch.{operated, served, answerOf, worldAfter, answersOf, called, worldCalled, answersCalled, Batched, batched, records, batchCode, ran, batchUnless, batch}
 use Rattle.batch.specs.Core.{going, ranFrom}
 use Rattle.batch.proofs.Numbers.{length-answer}
 use Rattle.batch.proofs.Served.{Kept, served-whole, served-keeps}
@@ -159,7 +161,7 @@ records-called {w} h (r ∷ rs) =
     )
 
 module _ (w : World) (typed : Typed (w .links)) (bs as′ : List ℕ) (accepted : batchCode w bs as′ ≡ 0) where
-  accepted-whole : Whole w
+  pub accepted-whole : Whole w
   unfolding batchCode
   accepted-whole = examined-whole w typed .0 (go (eqb (examined w) 0) refl _ accepted)
     where
@@ -173,3 +175,15 @@ module _ (w : World) (typed : Typed (w .links)) (bs as′ : List ℕ) (accepted 
   batch-is-the-calls =
       let m = records-called accepted-whole (recordsFrom (records bs) bs 0) in
       batch-ran w bs as′ accepted ∙ ap₂ (λ (u : World) (l : List ℕ). batched 0 u (over l as′) (records bs)) (m .0) (m .1)
+
+-- ---- no second outcome
+
+-- two answers, with the pools and the answer bytes that they leave, that satisfy the contract are the same
+pub determined-batch : (w : World) (bs as′ : List ℕ) (p p′ : Pool) (as₁ as₂ : List ℕ) (r r′ : Batch) → batched (r .code) (worldWith (r .state) p) as₁ (r .count) ≡ batch w bs as′
+    → batched (r′ .code) (worldWith (r′ .state) p′) as₂ (r′ .count) ≡ batch w bs as′ → (r ≡ r′) × (p ≡ p′) × (as₁ ≡ as₂)
+determined-batch w bs as′ p p′ as₁ as₂ r r′ e f =
+    let g : batched (r .code) (worldWith (r .state) p) as₁ (r .count) ≡ batched (r′ .code) (worldWith (r′ .state) p′) as₂ (r′ .count) = e ∙ sym f in (
+      ap {B = Batch} (λ (b : Batched). record { code = b .code; state = stateIn (b .world); count = b .count }) g,
+      ap (λ (b : Batched). poolIn (b .world)) g,
+      ap (λ (b : Batched). b .answers) g,
+    )

@@ -44,6 +44,16 @@ number-low (suc n) x =
 pub number-bytes : (n x : ℕ) → x < 256 ^ n → number n (bytesOf n x) 0 ≡ x
 number-bytes n x h = number-low n x ∙ mod-eq-of-lt h
 
+-- n bytes make a number below 256^n
+pub number-small : (n : ℕ) (bs : List ℕ) → ((k : ℕ) → getD bs k 0 < 256) → (at : ℕ) → number n bs at < 256 ^ n
+unfolding number
+number-small zero bs small at = omega arith
+number-small (suc n) bs small at =
+    let p = pow-suc 256 n in
+    let b = small at in
+    let rest = number-small n bs small (at + 1) in
+    omega (arith, p, b, rest)
+
 pub low-byte : (b m : ℕ) → b < 256 → (b + 256 * m) % 256 ≡ b
 low-byte b m h = omega arith
 

@@ -12,7 +12,9 @@ use Rattle.engine.specs.Outcome.{Outcome}
 use Rattle.heap.specs.Calls.{push, pushed}
 use Rattle.heap.proofs.Calls.{push-whole}
 use Rattle.heap.proofs.Public.{passes}
+use Rattle.heap.proofs.Determined.{Pool, over, stateIn, poolIn}
 use Rattle.bulk.specs.declared.Entry.{Entry}
+use Rattle.bulk.specs.declared.wide.Extended.{Extended}
 use Rattle.bulk.specs.Bulk.{Bulk, bulk, pushEach, kept, extend, bulkUnless, extended}
 
 -- ---- any world: a refusal changes nothing
@@ -99,3 +101,12 @@ extended-is-the-pushes w t es = go (examined w) refl
     go : (c : ℕ) → examined w ≡ c → bulkUnless c w (extend w es) .code ≡ 0 → bulkUnless c w (extend w es) .world ≡ pushedEach w es
     go zero e z = let k = kept-taken w (pushEach 0 w es) z in k .1 ∙ each-pushed es 0 (examined-whole w t .0 e) (k .0)
     go (suc c) e z = absurd (omega arith)
+
+-- ---- no second outcome
+
+-- two answers, with the pools that they leave, that satisfy the contract of `extend` or `extend_wide` are the same
+pub determined-extend : (w : World) (es : List Entry) (p p′ : Pool) (r r′ : Extended) → bulk (r .code) (over (r .state) p) (r .place) ≡ extended w es
+    → bulk (r′ .code) (over (r′ .state) p′) (r′ .place) ≡ extended w es → (r ≡ r′) × (p ≡ p′)
+determined-extend w es p p′ r r′ e f =
+    let g : bulk (r .code) (over (r .state) p) (r .place) ≡ bulk (r′ .code) (over (r′ .state) p′) (r′ .place) = e ∙ sym f in
+    (ap {B = Extended} (λ (b : Bulk). record { code = b .code; state = stateIn (b .world); place = b .place }) g, ap (λ (b : Bulk). poolIn (b .world)) g)

@@ -22,14 +22,14 @@ pub record Pool : Type 0 where
   pub next : List ℕ
   pub back : List ℕ
 
-abbrev over : State → Pool → World
+abbrev pub over : State → Pool → World
 over s p = worldOf s (p .keys) (p .values) (p .next) (p .back)
 
 -- a world tells its state and its pool
-abbrev stateIn : World → State
+abbrev pub stateIn : World → State
 stateIn w = record { head = w .head; first = w .links .first; last = w .links .last }
 
-abbrev poolIn : World → Pool
+abbrev pub poolIn : World → Pool
 poolIn w = record { keys = w .keys; values = w .values; next = w .links .next; back = w .links .back }
 
 -- ---- answers by their form; x is what the call gives
