@@ -1,127 +1,149 @@
--- Document 01's examples, run by computation: the public calls of specs/Calls.antt, with the examination, on worlds made by new and new_at.
+-- Document 01's starred examples, 1 to 10, as rows of one table, computed by the public calls' definitions: the fresh calls, the
+-- examinations, the calls themselves.
 use mathlib.Core.Path.{_≡_, refl}
 use mathlib.Core.Bool.{Bool, true, false, _&&_}
-use mathlib.Core.List.{List, [], _∷_}
-use Prim.Native.Nat.{ℕ, _*_}
+use mathlib.Core.List.{List, [], _∷_, _++_, map}
+use Prim.Native.Nat.{ℕ, zero, suc, _-_, _*_, _^_}
 use lib.Dec.{eqb}
 use lib.ListN.{replicate}
-use Rattle.rule.specs.Width.{distance}
-use Rattle.rule.specs.Rule.{bucketCount, empty, held, put, busy, stay, takeTail as ruleTake, greatest, spread, drain, drainSome, drainBucket, constrain as ruleConstrain, push as rulePush, pop as rulePop}
+use Rattle.rule.specs.Lists.{sum}
+use Rattle.rule.specs.Width.{distance, zeros}
+use Rattle.rule.specs.Calls.{refusal, taking}
+use Rattle.rule.specs.Rule.{bucketCount, empty, held, put, busy, stay, takeTail, greatest, spread, drain, drainSome, drainBucket, constrain as ruleConstrain, push as rulePush, pop as rulePop, served, serve}
+use Rattle.rule.specs.Ledger.{pushed as noting, moved, bound, opened, everyone, noted, leaving, entered, recordCall, bookAfter}
 use Rattle.keys.specs.Ordered.{width, words, ordered, wellFormed}
 use Rattle.pool.specs.World.{blank, World, storeKey, keyWord0, keyWord1, place, within, chains, busyChains}
 use Rattle.pool.specs.Sound.{limit}
 use Rattle.pool.specs.Examine.{standsAt, emptyAt, fits, examined, fitting, headed, finish, scan, verifyBusy, apart, verify, okBusy, okFree}
-use Rattle.pool.specs.Lay.{topIn, heapIn, heap, withFree, firstIn, after, before, nextIn, backIn, lay}
-use Rattle.engine.specs.Outcome.{listUnless, roomFor, refused, done, given, unless, checked}
-use Rattle.pool.specs.Lay.{fresh, leading, headAfter}
-use Rattle.heap.specs.Calls.{pushInto, push, constrain, popOut, pop, clear, clearTo, top, len, pushed, popped, constrained, cleared, clearedTo, topRead, lenRead, made, madeAt, over, wordsAt, list, listed}
-use Rattle.promises.specs.Runs.{Ask, AskPush, AskPop, AskConstrain, AskClear, AskClearTo, AskTop, outcome}
+use Rattle.pool.specs.Lay.{topIn, heapIn, heap, withFree, firstIn, after, before, nextIn, backIn, lay, fresh, leading, headAfter}
+use Rattle.engine.specs.Outcome.{refused, done, given, unless, checked}
+use Rattle.heap.specs.Calls.{pushInto, push, constrain, popOut, pop, clear, clearTo, top, len, pushed, popped, constrained, cleared, clearedTo, topRead, lenRead, made, madeAt}
+use Rattle.promises.specs.Runs.{keyOf, Ask, AskPush, AskPop, AskConstrain, AskClear, AskClearTo, AskTop, outcome, movesFrom}
+use Rattle.promises.specs.Plain.{unlessMalformed, callOf, ahead, callsOf}
+use Rattle.promises.specs.Fresh.{Lent, New, NewAt, started, startTop}
+use Rattle.promises.specs.Promised.{begun, ledger, reported}
 
--- code, moves, first key word and value of each call
-told : World → List Ask → List (List ℕ)
+-- ---- what calls show
+
+-- n slots for keys of a kind
+abbrev lent : ℕ → ℕ → Lent
+lent kind n = record { kind = kind; keys = replicate (words kind * n) 0; values = replicate n 0; next = replicate n 0; back = replicate n 0 }
+
+-- code, moves, key words and value of each call
+shown : World → List Ask → List (List ℕ)
 unfolding outcome
-told w [] = []
-told w (c ∷ cs) =
+shown w [] = []
+shown w (c ∷ cs) =
     let o = outcome w c in
-    (o .code ∷ o .moves ∷ o .key0 ∷ o .value ∷ []) ∷ told (o .world) cs
+    (o .code ∷ o .moves ∷ o .key0 ∷ o .key1 ∷ o .value ∷ []) ∷ shown (o .world) cs
 
-agree : List ℕ → List ℕ → Bool
-agree [] [] = true
-agree [] (y ∷ ys) = false
-agree (x ∷ xs) [] = false
-agree (x ∷ xs) (y ∷ ys) = eqb x y && agree xs ys
+abbrev key : ℕ → Ask
+key k = AskPush k 0 0
 
-agrees : List (List ℕ) → List (List ℕ) → Bool
-unfolding agree
-agrees [] [] = true
-agrees [] (y ∷ ys) = false
-agrees (x ∷ xs) [] = false
-agrees (x ∷ xs) (y ∷ ys) = agree x y && agrees xs ys
+abbrev pops : ℕ → List Ask
+pops zero = []
+pops (suc n) = AskPop ∷ pops n
 
-new : ℕ → ℕ → World
-unfolding made
-new kind n = made kind (replicate (words kind * n) 0) (replicate n 0) (replicate n 0) (replicate n 0) .world
+-- a call that is done and gives nothing, one that is refused, a pop, a top, a constrain
+abbrev ok : List ℕ
+ok = 0 ∷ 0 ∷ 0 ∷ 0 ∷ 0 ∷ []
 
-newAt : ℕ → ℕ → ℕ → World
-unfolding madeAt
-newAt kind n a = madeAt kind a 0 (replicate (words kind * n) 0) (replicate n 0) (replicate n 0) (replicate n 0) .world
+abbrev no : ℕ → List ℕ
+no code = code ∷ 0 ∷ 0 ∷ 0 ∷ 0 ∷ []
 
+abbrev gives : ℕ → ℕ → ℕ → List ℕ
+gives moves key value = 0 ∷ moves ∷ key ∷ 0 ∷ value ∷ []
+
+abbrev tells : ℕ → List ℕ
+tells key = 0 ∷ 0 ∷ key ∷ 0 ∷ 0 ∷ []
+
+abbrev moves : ℕ → List ℕ
+moves m = 0 ∷ m ∷ 0 ∷ 0 ∷ 0 ∷ []
+
+-- ---- the table
+
+-- what is shown, and what document 01 says
 record Row : Type 0 where
-  start : World
-  calls : List Ask
-  answers : List (List ℕ)
+  shows : List (List ℕ)
+  says : List (List ℕ)
 
-row : World → List Ask → List (List ℕ) → Row
-row w cs as′ = record { start = w; calls = cs; answers = as′ }
+abbrev row : List (List ℕ) → List (List ℕ) → Row
+row a b = record { shows = a; says = b }
 
--- each call's code, moves, first key word and value
+-- calls on a fresh heap of that kind with n slots, by new and by new_at
+abbrev calls : ℕ → ℕ → List Ask → List (List ℕ)
+calls kind n cs = shown (begun (lent kind n) New) cs
+
+abbrev callsAt : ℕ → ℕ → ℕ → List Ask → List (List ℕ)
+callsAt kind n k cs = shown (begun (lent kind n) (NewAt k 0)) cs
+
+nine : List Ask
+nine = map key (255 ∷ 127 ∷ 63 ∷ 31 ∷ 15 ∷ 7 ∷ 3 ∷ 1 ∷ 0 ∷ []) ++ pops 9
+
+-- two's complement
+abbrev minusOne : ℕ
+minusOne = 2 ^ 64 - 1
+
+abbrev least : ℕ
+least = 2 ^ 63
+
+abbrev apartBy : ℕ → ℕ → ℕ → ℕ → ℕ
+apartBy a b c d = distance (width 4) (ordered 4 a b) (ordered 4 c d)
+
 table : List Row
-unfolding row new newAt
+unfolding shown nine
 table =
-    -- 1
-    row (new 1 16)
-    (AskPush 255 0 0 ∷ AskPush 127 0 0 ∷ AskPush 63 0 0 ∷ AskPush 31 0 0 ∷ AskPush 15 0 0 ∷ AskPush 7 0 0 ∷ AskPush 3 0 0 ∷ AskPush 1 0 0 ∷ AskPush 0 0 0 ∷ AskPop ∷ AskPop ∷ AskPop ∷ AskPop ∷ AskPop ∷ AskPop ∷ AskPop ∷ AskPop ∷ AskPop ∷ [])
-    ((0 ∷ 0 ∷ 0 ∷ 0 ∷ []) ∷ (0 ∷ 0 ∷ 0 ∷ 0 ∷ []) ∷ (0 ∷ 0 ∷ 0 ∷ 0 ∷ []) ∷ (0 ∷ 0 ∷ 0 ∷ 0 ∷ []) ∷ (0 ∷ 0 ∷ 0 ∷ 0 ∷ []) ∷ (0 ∷ 0 ∷ 0 ∷ 0 ∷ []) ∷ (0 ∷ 0 ∷ 0 ∷ 0 ∷ []) ∷ (0 ∷ 0 ∷ 0 ∷ 0 ∷ []) ∷ (0 ∷ 0 ∷ 0 ∷ 0 ∷ []) ∷ (0 ∷ 9 ∷ 255 ∷ 0 ∷ []) ∷ (0 ∷ 8 ∷ 127 ∷ 0 ∷ []) ∷ (0 ∷ 7 ∷ 63 ∷ 0 ∷ []) ∷ (0 ∷ 6 ∷ 31 ∷ 0 ∷ []) ∷ (0 ∷ 5 ∷ 15 ∷ 0 ∷ []) ∷ (0 ∷ 4 ∷ 7 ∷ 0 ∷ []) ∷ (0 ∷ 3 ∷ 3 ∷ 0 ∷ []) ∷ (0 ∷ 2 ∷ 1 ∷ 0 ∷ []) ∷ (0 ∷ 1 ∷ 0 ∷ 0 ∷ []) ∷ []) ∷
+    -- 1: nine pops give that order, ..
+    row (calls 1 16 nine)
+    (replicate 9 ok ++ gives 9 255 0 ∷ gives 8 127 0 ∷ gives 7 63 0 ∷ gives 6 31 0 ∷ gives 5 15 0 ∷ gives 4 7 0 ∷ gives 3 3 0 ∷ gives 2 1 0 ∷ gives 1 0 0 ∷ [])
+    -- .. "45, which equals the summed bound of demand 3"
+    ∷ row ((reported (lent 1 16) New nine ∷ sum (bound 64 (keyOf 1)) (everyone (ledger (lent 1 16) New nine)) ∷ []) ∷ [])
+    ((45 ∷ 45 ∷ []) ∷ [])
     -- 2
-    row (new 1 16)
-    (AskPush 5 0 1 ∷ AskPush 5 0 2 ∷ AskPush 3 0 3 ∷ AskPush 5 0 4 ∷ AskPop ∷ AskPop ∷ AskPop ∷ AskPop ∷ [])
-    ((0 ∷ 0 ∷ 0 ∷ 0 ∷ []) ∷ (0 ∷ 0 ∷ 0 ∷ 0 ∷ []) ∷ (0 ∷ 0 ∷ 0 ∷ 0 ∷ []) ∷ (0 ∷ 0 ∷ 0 ∷ 0 ∷ []) ∷ (0 ∷ 4 ∷ 5 ∷ 4 ∷ []) ∷ (0 ∷ 0 ∷ 5 ∷ 2 ∷ []) ∷ (0 ∷ 0 ∷ 5 ∷ 1 ∷ []) ∷ (0 ∷ 1 ∷ 3 ∷ 3 ∷ []) ∷ []) ∷
+    ∷ row (calls 1 16 (AskPush 5 0 1 ∷ AskPush 5 0 2 ∷ AskPush 3 0 3 ∷ AskPush 5 0 4 ∷ pops 4))
+    (replicate 4 ok ++ gives 4 5 4 ∷ gives 0 5 2 ∷ gives 0 5 1 ∷ gives 1 3 3 ∷ [])
     -- 3
-    row (newAt 1 16 5)
-    (AskPush 5 0 0 ∷ AskPush 6 0 0 ∷ [])
-    ((0 ∷ 0 ∷ 0 ∷ 0 ∷ []) ∷ (6 ∷ 0 ∷ 0 ∷ 0 ∷ []) ∷ []) ∷
+    ∷ row (callsAt 1 16 5 (key 5 ∷ key 6 ∷ [])) (ok ∷ no 6 ∷ [])
     -- 4
-    row (newAt 1 1 5)
-    (AskPush 5 0 0 ∷ AskPush 6 0 0 ∷ AskPush 4 0 0 ∷ [])
-    ((0 ∷ 0 ∷ 0 ∷ 0 ∷ []) ∷ (6 ∷ 0 ∷ 0 ∷ 0 ∷ []) ∷ (7 ∷ 0 ∷ 0 ∷ 0 ∷ []) ∷ []) ∷
+    ∷ row (callsAt 1 1 5 (key 5 ∷ key 6 ∷ key 4 ∷ [])) (ok ∷ no 6 ∷ no 7 ∷ [])
     -- 5
-    row (new 2 16)
-    (AskPush 18446744073709551615 0 0 ∷ AskPush 0 0 0 ∷ AskPush 9223372036854775808 0 0 ∷ AskPop ∷ AskPop ∷ AskPop ∷ [])
-    ((0 ∷ 0 ∷ 0 ∷ 0 ∷ []) ∷ (0 ∷ 0 ∷ 0 ∷ 0 ∷ []) ∷ (0 ∷ 0 ∷ 0 ∷ 0 ∷ []) ∷ (0 ∷ 3 ∷ 0 ∷ 0 ∷ []) ∷ (0 ∷ 2 ∷ 18446744073709551615 ∷ 0 ∷ []) ∷ (0 ∷ 1 ∷ 9223372036854775808 ∷ 0 ∷ []) ∷ []) ∷
+    ∷ row (calls 2 16 (key minusOne ∷ key 0 ∷ key least ∷ pops 3))
+    (replicate 3 ok ++ gives 3 0 0 ∷ gives 2 minusOne 0 ∷ gives 1 least 0 ∷ [])
     -- 6
-    row (new 3 16)
-    (AskPush 10 0 1 ∷ AskPush 20 0 2 ∷ AskPush 10 0 3 ∷ AskPop ∷ AskPush 9 0 0 ∷ AskPush 10 0 0 ∷ [])
-    ((0 ∷ 0 ∷ 0 ∷ 0 ∷ []) ∷ (0 ∷ 0 ∷ 0 ∷ 0 ∷ []) ∷ (0 ∷ 0 ∷ 0 ∷ 0 ∷ []) ∷ (0 ∷ 3 ∷ 10 ∷ 3 ∷ []) ∷ (6 ∷ 0 ∷ 0 ∷ 0 ∷ []) ∷ (0 ∷ 0 ∷ 0 ∷ 0 ∷ []) ∷ []) ∷
+    ∷ row (calls 3 16 (AskPush 10 0 1 ∷ AskPush 20 0 2 ∷ AskPush 10 0 3 ∷ AskPop ∷ key 9 ∷ key 10 ∷ []))
+    (replicate 3 ok ++ gives 3 10 3 ∷ no 6 ∷ ok ∷ [])
+    -- 7
+    ∷ row ((apartBy 1 0 0 (2 ^ 64 - 1) ∷ apartBy 1 1 1 0 ∷ []) ∷ []) ((65 ∷ 1 ∷ []) ∷ [])
     -- 8
-    row (new 1 16)
-    (AskClearTo 7 0 ∷ AskPop ∷ AskPush 8 0 0 ∷ AskPush 7 0 0 ∷ AskClear ∷ AskPush 8 0 0 ∷ [])
-    ((0 ∷ 0 ∷ 0 ∷ 0 ∷ []) ∷ (8 ∷ 0 ∷ 0 ∷ 0 ∷ []) ∷ (6 ∷ 0 ∷ 0 ∷ 0 ∷ []) ∷ (0 ∷ 0 ∷ 0 ∷ 0 ∷ []) ∷ (0 ∷ 0 ∷ 0 ∷ 0 ∷ []) ∷ (0 ∷ 0 ∷ 0 ∷ 0 ∷ []) ∷ []) ∷
+    ∷ row (calls 1 16 (AskClearTo 7 0 ∷ AskPop ∷ key 8 ∷ key 7 ∷ AskClear ∷ key 8 ∷ []))
+    (ok ∷ no 8 ∷ no 6 ∷ ok ∷ ok ∷ ok ∷ [])
     -- 9
-    row (new 1 16)
-    (AskPush 3 0 0 ∷ AskPush 9 0 0 ∷ AskConstrain ∷ AskTop ∷ AskPush 10 0 0 ∷ AskConstrain ∷ [])
-    ((0 ∷ 0 ∷ 0 ∷ 0 ∷ []) ∷ (0 ∷ 0 ∷ 0 ∷ 0 ∷ []) ∷ (0 ∷ 2 ∷ 0 ∷ 0 ∷ []) ∷ (0 ∷ 0 ∷ 9 ∷ 0 ∷ []) ∷ (6 ∷ 0 ∷ 0 ∷ 0 ∷ []) ∷ (0 ∷ 0 ∷ 0 ∷ 0 ∷ []) ∷ []) ∷
+    ∷ row (calls 1 16 (key 3 ∷ key 9 ∷ AskConstrain ∷ AskTop ∷ key 10 ∷ AskConstrain ∷ []))
+    (ok ∷ ok ∷ moves 2 ∷ tells 9 ∷ no 6 ∷ moves 0 ∷ [])
     -- 10
-    row (new 1 0)
-    (AskPush 5 0 0 ∷ AskPop ∷ [])
-    ((7 ∷ 0 ∷ 0 ∷ 0 ∷ []) ∷ (8 ∷ 0 ∷ 0 ∷ 0 ∷ []) ∷ []) ∷
-    -- 12
-    row (new 1 2)
-    (AskPush 1 0 0 ∷ AskPush 2 0 0 ∷ AskPush 3 0 0 ∷ AskPop ∷ AskPush 1 0 0 ∷ [])
-    ((0 ∷ 0 ∷ 0 ∷ 0 ∷ []) ∷ (0 ∷ 0 ∷ 0 ∷ 0 ∷ []) ∷ (7 ∷ 0 ∷ 0 ∷ 0 ∷ []) ∷ (0 ∷ 2 ∷ 2 ∷ 0 ∷ []) ∷ (0 ∷ 0 ∷ 0 ∷ 0 ∷ []) ∷ []) ∷
-    -- a second word in kind 1 is told 5
-    row (new 1 2)
-    (AskPush 1 1 0 ∷ AskClearTo 1 1 ∷ [])
-    ((5 ∷ 0 ∷ 0 ∷ 0 ∷ []) ∷ (5 ∷ 0 ∷ 0 ∷ 0 ∷ []) ∷ []) ∷
-    []
+    ∷ row (calls 1 0 (key 5 ∷ AskPop ∷ [])) (no 7 ∷ no 8 ∷ [])
+    ∷ []
 
-every : List Row → Bool
-unfolding agrees told
-every [] = true
-every (r ∷ rs) = agrees (told (r .start) (r .calls)) (r .answers) && every rs
+-- ---- compared number by number
 
-examples : every table ≡ true
-unfolding agree agrees told new newAt table row every made madeAt blank outcome pushed popped constrained cleared clearedTo topRead lenRead checked unless examined fitting headed finish scan verifyBusy apart verify standsAt emptyAt okBusy okFree fits limit push pushInto pop popOut constrain headAfter leading clear clearTo top len refused done given fresh heap heapIn topIn withFree lay firstIn after before nextIn backIn chains busyChains width words ordered wellFormed storeKey keyWord0 keyWord1 place within distance empty bucketCount held put busy stay ruleTake greatest spread drain drainSome drainBucket ruleConstrain rulePush rulePop
+same : List ℕ → List ℕ → Bool
+same [] [] = true
+same [] (y ∷ ys) = false
+same (x ∷ xs) [] = false
+same (x ∷ xs) (y ∷ ys) = eqb x y && same xs ys
+
+alike : List (List ℕ) → List (List ℕ) → Bool
+unfolding same
+alike [] [] = true
+alike [] (y ∷ ys) = false
+alike (x ∷ xs) [] = false
+alike (x ∷ xs) (y ∷ ys) = same x y && alike xs ys
+
+hold : List Row → Bool
+unfolding alike
+hold [] = true
+hold (r ∷ rs) = alike (r .shows) (r .says) && hold rs
+
+examples : hold table ≡ true
+unfolding same alike hold table shown nine started startTop made madeAt blank outcome movesFrom pushed popped constrained cleared clearedTo topRead lenRead checked unless examined fitting headed finish scan verifyBusy apart verify standsAt emptyAt okBusy okFree fits limit push pushInto pop popOut constrain headAfter leading clear clearTo top len refused done given fresh heap heapIn topIn withFree lay firstIn after before nextIn backIn chains busyChains width words ordered wellFormed storeKey keyWord0 keyWord1 place within distance zeros empty bucketCount held put busy stay takeTail greatest spread drain drainSome drainBucket ruleConstrain rulePush rulePop served serve refusal taking noting moved bound opened everyone noted leaving entered recordCall bookAfter unlessMalformed callOf ahead callsOf
 examples = refl
-
--- 11: listed, and once more after a constrain
-three : World
-unfolding pushed new
-three = pushed (pushed (pushed (new 1 16) 3 0 1 .world) 9 0 2 .world) 7 0 3 .world
-
-listing : World → List ℕ
-unfolding listed
-listing w = listed w (0 ∷ 0 ∷ 0 ∷ 55 ∷ []) (0 ∷ 0 ∷ 0 ∷ []) .keys
-
-example-11 : agree (listing three) (3 ∷ 9 ∷ 7 ∷ 55 ∷ []) && agree (listing (constrained three .world)) (9 ∷ 3 ∷ 7 ∷ 55 ∷ []) ≡ true
-unfolding three listing agree new made blank outcome pushed popped constrained list listUnless roomFor listed over wordsAt cleared clearedTo topRead lenRead checked unless examined fitting headed finish scan verifyBusy apart verify standsAt emptyAt okBusy okFree fits limit push pushInto pop popOut constrain headAfter leading clear clearTo top len refused done given fresh heap heapIn topIn withFree lay firstIn after before nextIn backIn chains busyChains width words ordered wellFormed storeKey keyWord0 keyWord1 place within distance empty bucketCount held put busy stay ruleTake greatest spread drain drainSome drainBucket ruleConstrain rulePush rulePop
-example-11 = refl

@@ -1,12 +1,25 @@
--- The demands as theorems about the public calls. What they end in:
---   every-answer-as-the-plain-list, every-answer-as-the-plain-list-at (Every)                         demand 2, malformed calls included
---   answers-as-the-plain-list, answers-as-the-plain-list-at, answers-from-any-sound-world (Demands)   demand 2
---   push-refused-exactly (Runs)                                                                       demand 2
---   moves-within-bound, moves-within-bound-at (Demands)                                               demand 3
---   released-in-order, released-from-any-sound-world (Demands)                                        the safety office's sentence
---   examples (Examples)                                                                               document 01's examples, one table
--- Below them: outcome-agrees (Runs), that one call is the rule's call on the entries that stand in the pool.
-pub mod Runs
-pub mod Demands
-pub mod Every
+-- The demands as theorems about the public calls: Promises has them all, in the users' words, and Examples document 01's starred
+-- examples. Below them, from the bottom:
+--   Standing             entries in place of slots
+--   Agrees, Pop, Push    one call on a sound pool is the rule's call on the entries that stand in it
+--   Calls                every call, malformed ones included
+--   Holding              a pool that holds the entries of a plain list answers as that list, whatever the calls
+--   Begin                what new, new_at, clear and clear_to leave holds nothing; any sound pool holds its entries
+--   Moving               the moves that calls report are the rule's
+--   Releasing, InTime    what is handed out while no clear comes
+--   Slots                when a push is refused; freed slots
+--   Batches              batches and bulk pushes are sequences of calls
+pub mod Standing
+pub mod Agrees
+pub mod Pop
+pub mod Push
+pub mod Calls
+pub mod Holding
+pub mod Begin
+pub mod Moving
+pub mod Releasing
+pub mod InTime
+pub mod Slots
+pub mod Batches
+pub mod Promises
 mod Examples

@@ -1,2 +1,11 @@
--- Runs: any sequence of public calls, each by the very definition that its contract cites, state and pool handed on as returned.
+-- What the promises speak of, over the public calls' own definitions (heap, specs/Calls):
+--   Runs       any sequence of calls, state and pool handed on as returned
+--   Plain      the same calls on the plain list
+--   Fresh      how a heap begins
+--   Batches    the calls that a batch or a bulk push asks for
+--   Promised   the words of the promises themselves (proofs/Promises)
 pub mod Runs
+pub mod Plain
+pub mod Fresh
+pub mod Batches
+pub mod Promised
