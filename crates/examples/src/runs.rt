@@ -1,11 +1,40 @@
 // An example as rows of numbers: an operation with its key and value, and what it must give.
+use heap::Given;
 use heap::Moves;
+use heap::Top;
 use pool::State;
 
 // The state so far, and whether every call gave what it must.
 pub struct Run {
     pub ok: bool,
     pub state: State,
+}
+
+// Is this the entry with this key of one word and this value?
+fn is_entry(given: Given, key: u64, value: u64) -> bool {
+    match given {
+        Given::Nothing => false,
+        Given::Entry {
+            key0,
+            key1,
+            value: got,
+        } => key0 == key && key1 == 0 && got == value,
+    }
+}
+
+fn is_nothing(given: Given) -> bool {
+    match given {
+        Given::Nothing => true,
+        Given::Entry { .. } => false,
+    }
+}
+
+// Is this the top with this key of one word?
+fn is_key(top: Top, key: u64) -> bool {
+    match top {
+        Top::Absent => false,
+        Top::Key { key0, key1 } => key0 == key && key1 == 0,
+    }
 }
 
 impl Run {
@@ -63,11 +92,7 @@ impl Run {
         moves: u64,
     ) -> Run {
         let p = heap::pop(self.state, keys, values, next, back);
-        let right = p.code == 0
-            && p.key0 == key
-            && p.key1 == 0
-            && p.value == value
-            && p.moves as u64 == moves;
+        let right = p.code == 0 && is_entry(p.given, key, value) && p.moves as u64 == moves;
         let state = p.state;
         Run {
             ok: self.ok && right,
@@ -85,7 +110,7 @@ impl Run {
         let p = heap::pop(self.state, keys, values, next, back);
         let state = p.state;
         Run {
-            ok: self.ok && p.code == 8 && p.moves == 0 && p.key0 == 0 && p.value == 0,
+            ok: self.ok && p.code == 8 && p.moves == 0 && is_nothing(p.given),
             state,
         }
     }
@@ -102,11 +127,7 @@ impl Run {
         let c = heap::constrain(self.state, keys, values, next, back);
         let state = c.state;
         let t = heap::top(state, keys, values, next, back);
-        let right = c.code == 0
-            && c.moves as u64 == moves
-            && t.code == 0
-            && t.present
-            && t.key0 == top;
+        let right = c.code == 0 && c.moves as u64 == moves && t.code == 0 && is_key(t.top, top);
         Run {
             ok: self.ok && right,
             state,

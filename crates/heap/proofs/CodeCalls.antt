@@ -5,20 +5,23 @@ use mathlib.Core.Bool.{Bool, true, false, and-false, and-true}
 use mathlib.Core.List.{List}
 use native.Mathlib.Nat.{one-mul}
 use native.Mathlib.Omega.{arith}
-use borrow.Author.Tests.{leb-true, leb-false, le-leb, lt-leb}
-use lib.Dec.{leb}
+use borrow.Author.Tests.{eqb-false, leb-true, leb-false, le-leb, lt-leb}
+use lib.Dec.{eqb, leb}
 use lib.ListN.{length}
 use Rattle.keys.proofs.Ordered.{words-pair, words-word}
 use Rattle.pool.specs.World.{World}
 use Rattle.pool.specs.Sound.{Whole}
 use Rattle.pool.specs.Core.{Moved, movedTo, constrainCore}
 use Rattle.pool.proofs.Follows.{examined-whole}
-use Rattle.engine.specs.Outcome.{Outcome, answered, done, listing, roomFor}
+use Rattle.engine.specs.Outcome.{Outcome, answered, refused, done, listing, roomFor}
 use Rattle.engine.specs.Core.{pushCore, popCore, Written, listEntries, listAll, listCore}
 use Rattle.engine.specs.Room.{Roomy}
-use Rattle.heap.specs.Calls.{push, pop, constrain, list, pushed, popped, constrained, listed}
+use Rattle.heap.specs.declared.answers.Given.the-variants.{Nothing, Entry}
+use Rattle.heap.specs.declared.answers.Top.the-variants.{Absent, Key}
+use Rattle.heap.specs.Answers.{popAnswered, givenIf, topAnswered, topIf}
+use Rattle.heap.specs.Calls.{push, pop, constrain, top, list, pushed, popped, constrained, topRead, listed}
 use Rattle.heap.proofs.Calls.{push-core, pop-core, constrain-core}
-use Rattle.heap.proofs.Public.{passes}
+use Rattle.heap.proofs.Public.{Fair, refused-changes-nothing, passes}
 use Rattle.heap.proofs.Listed.{room-enough, core-by, list-core}
 use Rattle.heap.proofs.CodeChecked.{passed-list}
 
@@ -29,13 +32,57 @@ module _ {w : World} (h : Whole w) where
   unfolding pushed
   pushed-is a b v e = e ∙ push-core h a b v ∙ sym (passes h (push w a b v))
 
-  pub popped-is : {o : Outcome} → o ≡ popCore w → o ≡ popped w
+  popped-is : {o : Outcome} → o ≡ popCore w → o ≡ popped w
   unfolding popped
   popped-is e = e ∙ pop-core h ∙ sym (passes h (pop w))
+
+  -- a pop that is refused gives 0 for all words, so nothing is lost where its answer is `Nothing`
+  pub popped-given : (code : ℕ) (w′ : World) (moves a b v : ℕ) → answered code w′ moves (eqb code 0) a b v 0 ≡ popCore w
+      → popAnswered code w′ moves (givenIf (eqb code 0) a b v) ≡ popped w
+  unfolding popAnswered givenIf Fair refused
+  popped-given code w′ moves a b v e = go (eqb code 0) refl (popped-is e)
+    where
+      go : (x : Bool) → eqb code 0 ≡ x → answered code w′ moves x a b v 0 ≡ popped w → popAnswered code w′ moves (givenIf x a b v) ≡ popped w
+      go true p q = q
+      go false p q =
+          let none = refused-changes-nothing .pop w (λ z. eqb-false code 0 p (ap (λ (o : Outcome). o .code) q ∙ z)) in
+          let zero = q ∙ none in
+          (λ i. answered code w′ moves false (sym (ap (λ (o : Outcome). o .key0) zero) i) (sym (ap (λ (o : Outcome). o .key1) zero) i)
+          (sym (ap (λ (o : Outcome). o .value) zero) i) 0)
+          ∙ q
+
+  -- with no top both words are 0
+  pub top-told : topAnswered 0 w (topIf (w .head .topped) (w .head .top0) (w .head .top1)) ≡ topRead w
+  unfolding topAnswered topIf topRead top
+  top-told = go (w .head .topped) refl ∙ sym (passes h (top w))
+    where
+      go : (x : Bool) → w .head .topped ≡ x → topAnswered 0 w (topIf x (w .head .top0) (w .head .top1)) ≡ answered 0 w 0 x (w .head .top0) (w .head .top1) 0 0
+      go true e = refl
+      go false e = λ i. answered 0 w 0 false (sym (h .sound .noTop0 e) i) (sym (h .sound .noTop1 e) i) 0 0
 
   pub constrained-is : {m : Moved} → m ≡ constrainCore (w .head) (w .links) (w .keys) → answered 0 (movedTo w m) (m .moves) false 0 0 0 0 ≡ constrained w
   unfolding constrained done
   constrained-is e = ap (λ (m : Moved). done (movedTo w m) (m .moves)) e ∙ constrain-core h ∙ sym (passes h (constrain w))
+
+-- ---- answers that may be absent
+
+module _ (a b v : ℕ) where
+  pub given-there : {x : Bool} → x ≡ true → Entry a b v ≡ givenIf x a b v
+  unfolding givenIf
+  given-there e = ap (λ (x : Bool). givenIf x a b v) (sym e)
+
+  pub given-absent : {x : Bool} → x ≡ false → Nothing ≡ givenIf x a b v
+  unfolding givenIf
+  given-absent e = ap (λ (x : Bool). givenIf x a b v) (sym e)
+
+module _ (a b : ℕ) where
+  pub top-there : {x : Bool} → x ≡ true → Key a b ≡ topIf x a b
+  unfolding topIf
+  top-there e = ap (λ (x : Bool). topIf x a b) (sym e)
+
+  pub top-absent : {x : Bool} → x ≡ false → Absent ≡ topIf x a b
+  unfolding topIf
+  top-absent e = ap (λ (x : Bool). topIf x a b) (sym e)
 
 -- ---- the rooms of a list
 

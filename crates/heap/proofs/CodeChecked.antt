@@ -1,10 +1,8 @@
 -- What the code of the calls asks of the examination, on plain values: a call that it stops is refused with its code, and one that it passes acts on a sound pool.
 use mathlib.Core.Path.{_≡_, refl, sym, ap, _∙_}
-use mathlib.Core.Bool.{Bool, false}
+use mathlib.Core.Bool.{false}
 use mathlib.Core.List.{List}
 use Prim.Native.Nat.{ℕ, zero, suc}
-use borrow.Author.Tests.{ne-eqb}
-use lib.Dec.{eqb}
 use Rattle.pool.specs.World.{World}
 use Rattle.pool.specs.Sound.{Typed, Whole}
 use Rattle.pool.specs.Examine.{examined}
@@ -20,10 +18,6 @@ module _ (w : World) (code : ℕ) (told : code ≡ examined w) where
       go : (c : ℕ) → (c ≡ 0 → ⊥) → answered c w 0 false 0 0 0 0 ≡ unless c w o
       go zero z = absurd (z refl)
       go (suc c) z = refl
-
-  -- the same where a key is given just if the code is 0
-  pub stopped-empty : (o : Outcome) → (code ≡ 0 → ⊥) → answered code w 0 (eqb code 0) 0 0 0 0 ≡ checked w o
-  stopped-empty o n = ap (λ (p : Bool). answered code w 0 p 0 0 0 0) (ne-eqb code 0 n) ∙ stopped o n
 
   -- and of a listing
   pub stopped-list : (ks vs : List ℕ) (l : Listing) → (code ≡ 0 → ⊥) → listing code w ks vs 0 ≡ listUnless (examined w) w ks vs l

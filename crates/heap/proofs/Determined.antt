@@ -1,9 +1,8 @@
 -- No second outcome: two answers of a call, with the pools that they leave, that satisfy its contract are the same, byte for byte.
-use mathlib.Core.Path.{_≡_, sym, _∙_, ap}
+use mathlib.Core.Path.{_≡_, refl, sym, _∙_, ap}
 use mathlib.Core.Bool.{false}
 use mathlib.Core.List.{List}
 use Prim.Native.Nat.{ℕ}
-use lib.Dec.{eqb}
 use Rattle.pool.specs.declared.state.State.{State}
 use Rattle.pool.specs.World.{World, worldOf}
 use Rattle.engine.specs.Outcome.{Outcome, answered, Listing, listing}
@@ -13,6 +12,11 @@ use Rattle.heap.specs.declared.answers.Popped.{Popped}
 use Rattle.heap.specs.declared.answers.TopRead.{TopRead}
 use Rattle.heap.specs.declared.answers.Length.{Length}
 use Rattle.heap.specs.declared.answers.Listed.{Listed}
+use Rattle.heap.specs.declared.answers.Given.{Given}
+use Rattle.heap.specs.declared.answers.Given.the-variants.{Nothing, Entry}
+use Rattle.heap.specs.declared.answers.Top.{Top}
+use Rattle.heap.specs.declared.answers.Top.the-variants.{Absent, Key}
+use Rattle.heap.specs.Answers.{popAnswered, givenIf, topAnswered, topIf}
 use Rattle.heap.specs.Calls.{pushed, popped, constrained, cleared, clearedTo, topRead, lenRead, made, madeAt, listed}
 
 -- a pool's four slices
@@ -45,6 +49,32 @@ module _ (x : Outcome) (p p′ : Pool) where
       let g : answered (r .code) (over (r .state) p) (r .moves) false 0 0 0 0 ≡ answered (r′ .code) (over (r′ .state) p′) (r′ .moves) false 0 0 0 0 = e ∙ sym f in
       (ap {B = Moves} (λ (o : Outcome). record { code = o .code; state = stateIn (o .world); moves = o .moves }) g, ap (λ (o : Outcome). poolIn (o .world)) g)
 
+-- ---- what a pop gave, and the top, read back off an outcome
+
+record Read : Type 0 where
+  code : ℕ
+  world : World
+  moves : ℕ
+  given : Given
+
+readPop : Outcome → Read
+unfolding givenIf
+readPop o = record { code = o .code; world = o .world; moves = o .moves; given = givenIf (o .present) (o .key0) (o .key1) (o .value) }
+
+read-pop : (code : ℕ) (w : World) (moves : ℕ) (g : Given) → readPop (popAnswered code w moves g) ≡ record { code = code; world = w; moves = moves; given = g }
+unfolding readPop popAnswered givenIf
+read-pop code w moves Nothing = refl
+read-pop code w moves (Entry a b v) = refl
+
+readTop : Outcome → TopRead
+unfolding topIf
+readTop o = record { code = o .code; top = topIf (o .present) (o .key0) (o .key1) }
+
+read-top : (code : ℕ) (w : World) (t : Top) → readTop (topAnswered code w t) ≡ record { code = code; top = t }
+unfolding readTop topAnswered topIf
+read-top code w Absent = refl
+read-top code w (Key a b) = refl
+
 -- ---- the calls
 
 module _ (p p′ : Pool) where
@@ -60,12 +90,13 @@ module _ (p p′ : Pool) where
       → answered (r′ .code) (over (r′ .state) p′) 0 false 0 0 0 0 ≡ pushed w a b v → (r ≡ r′) × (p ≡ p′)
   determined-push w a b v = answer-determined (pushed w a b v) p p′
 
-  pub determined-pop : (w : World) (r r′ : Popped) → answered (r .code) (over (r .state) p) (r .moves) (eqb (r .code) 0) (r .key0) (r .key1) (r .value) 0 ≡ popped w
-      → answered (r′ .code) (over (r′ .state) p′) (r′ .moves) (eqb (r′ .code) 0) (r′ .key0) (r′ .key1) (r′ .value) 0 ≡ popped w → (r ≡ r′) × (p ≡ p′)
+  pub determined-pop : (w : World) (r r′ : Popped) → popAnswered (r .code) (over (r .state) p) (r .moves) (r .given) ≡ popped w
+      → popAnswered (r′ .code) (over (r′ .state) p′) (r′ .moves) (r′ .given) ≡ popped w → (r ≡ r′) × (p ≡ p′)
   determined-pop w r r′ e f =
-      let g : answered (r .code) (over (r .state) p) (r .moves) (eqb (r .code) 0) (r .key0) (r .key1) (r .value) 0
-      ≡ answered (r′ .code) (over (r′ .state) p′) (r′ .moves) (eqb (r′ .code) 0) (r′ .key0) (r′ .key1) (r′ .value) 0 = e ∙ sym f in
-      (ap {B = Popped} (λ (o : Outcome). record { code = o .code; state = stateIn (o .world); moves = o .moves; key0 = o .key0; key1 = o .key1; value = o .value }) g, ap (λ (o : Outcome). poolIn (o .world)) g)
+      let o = read-pop (r .code) (over (r .state) p) (r .moves) (r .given) in
+      let o′ = read-pop (r′ .code) (over (r′ .state) p′) (r′ .moves) (r′ .given) in
+      let g = sym o ∙ ap readPop (e ∙ sym f) ∙ o′ in
+      (ap {B = Popped} (λ (x : Read). record { code = x .code; state = stateIn (x .world); moves = x .moves; given = x .given }) g, ap (λ (x : Read). poolIn (x .world)) g)
 
   pub determined-constrain : (w : World) (r r′ : Moves) → answered (r .code) (over (r .state) p) (r .moves) false 0 0 0 0 ≡ constrained w
       → answered (r′ .code) (over (r′ .state) p′) (r′ .moves) false 0 0 0 0 ≡ constrained w → (r ≡ r′) × (p ≡ p′)
@@ -80,10 +111,8 @@ module _ (p p′ : Pool) where
   determined-clear-to w a b = moves-determined (clearedTo w a b) p p′
 
 -- the readers change nothing by their types, so the answer is all there is
-pub determined-top : (w : World) (r r′ : TopRead) → answered (r .code) w 0 (r .present) (r .key0) (r .key1) 0 0 ≡ topRead w → answered (r′ .code) w 0 (r′ .present) (r′ .key0) (r′ .key1) 0 0 ≡ topRead w → r ≡ r′
-determined-top w r r′ e f =
-    let g : answered (r .code) w 0 (r .present) (r .key0) (r .key1) 0 0 ≡ answered (r′ .code) w 0 (r′ .present) (r′ .key0) (r′ .key1) 0 0 = e ∙ sym f in
-    ap {B = TopRead} (λ (o : Outcome). record { code = o .code; present = o .present; key0 = o .key0; key1 = o .key1 }) g
+pub determined-top : (w : World) (r r′ : TopRead) → topAnswered (r .code) w (r .top) ≡ topRead w → topAnswered (r′ .code) w (r′ .top) ≡ topRead w → r ≡ r′
+determined-top w r r′ e f = sym (read-top (r .code) w (r .top)) ∙ ap readTop (e ∙ sym f) ∙ read-top (r′ .code) w (r′ .top)
 
 pub determined-len : (w : World) (r r′ : Length) → answered (r .code) w 0 false 0 0 0 (r .length) ≡ lenRead w → answered (r′ .code) w 0 false 0 0 0 (r′ .length) ≡ lenRead w → r ≡ r′
 determined-len w r r′ e f =

@@ -1,13 +1,15 @@
 // The calls that change a heap: push, pop, constrain, clear and clear_to.
 use crate::answers::Answer;
+use crate::answers::Given;
 use crate::answers::Moves;
 use crate::answers::Popped;
+use crate::answers::given_if;
 use pool::State;
 ghost use mathlib.Core.Path.{_≡_};
 ghost use mathlib.Core.Bool.{false};
-ghost use lib.Dec.{eqb};
 ghost use Rattle.pool.specs.World.{worldOf};
 ghost use Rattle.engine.specs.Outcome.{answered};
+ghost use Rattle.heap.specs.Answers.{popAnswered};
 ghost use Rattle.heap.specs.Calls.{pushed, popped, constrained, cleared, clearedTo};
 
 // Takes an entry. Code 5 for a second key word in kinds 1 to 3, 6 for a key above the top, 7 for no
@@ -57,7 +59,7 @@ pub fn pop(
     next: &mut [u32],
     back: &mut [u32],
 ) -> Popped
-    ensures { λ r. ⌜ answered (r .code) (worldOf (r .state) (now (keys .exit)) (now (values .exit)) (now (next .exit)) (now (back .exit))) (r .moves) (eqb (r .code) 0) (r .key0) (r .key1) (r .value) 0 ≡ popped (worldOf state (now (keys .entry)) (now (values .entry)) (now (next .entry)) (now (back .entry))) ⌝ }
+    ensures { λ r. ⌜ popAnswered (r .code) (worldOf (r .state) (now (keys .exit)) (now (values .exit)) (now (next .exit)) (now (back .exit))) (r .moves) (r .given) ≡ popped (worldOf state (now (keys .entry)) (now (values .entry)) (now (next .entry)) (now (back .entry))) ⌝ }
 {
     let code = pool::examine(state, keys, values, next, back);
     if code != 0 {
@@ -65,22 +67,19 @@ pub fn pop(
             code,
             state,
             moves: 0,
-            key0: 0,
-            key1: 0,
-            value: 0,
+            given: Given::Nothing,
         };
     }
     let mut first = state.first;
     let mut last = state.last;
     let r = engine::pop(state.head, &mut first, &mut last, keys, values, next, back);
     let head = r.head;
+    let given = given_if(r.code == 0, r.key0, r.key1, r.value);
     Popped {
         code: r.code,
         state: State { head, first, last },
         moves: r.moves,
-        key0: r.key0,
-        key1: r.key1,
-        value: r.value,
+        given,
     }
 }
 

@@ -13,10 +13,12 @@ mod fresh;
 mod reading;
 
 pub use answers::Answer;
+pub use answers::Given;
 pub use answers::Length;
 pub use answers::Listed;
 pub use answers::Moves;
 pub use answers::Popped;
+pub use answers::Top;
 pub use answers::TopRead;
 pub use changing::clear;
 pub use changing::clear_to;

@@ -1,34 +1,33 @@
 // The calls that only read: top, len, examine and list.
 use crate::answers::Length;
 use crate::answers::Listed;
+use crate::answers::Top;
 use crate::answers::TopRead;
+use crate::answers::top_if;
 use pool::State;
 ghost use mathlib.Core.Path.{_≡_};
 ghost use mathlib.Core.Bool.{false};
 ghost use Rattle.pool.specs.World.{worldOf};
 ghost use Rattle.pool.specs.Examine.{examined};
 ghost use Rattle.engine.specs.Outcome.{answered, listing, roomFor};
+ghost use Rattle.heap.specs.Answers.{topAnswered};
 ghost use Rattle.heap.specs.Calls.{topRead, lenRead, listed};
 
 // The top, if there is one: no greater key will be taken.
 pub fn top(state: State, keys: &[u64], values: &[u64], next: &[u32], back: &[u32]) -> TopRead
-    ensures { λ r. ⌜ answered (r .code) (worldOf state (now (keys .entry)) (now (values .entry)) (now (next .entry)) (now (back .entry))) 0 (r .present) (r .key0) (r .key1) 0 0 ≡ topRead (worldOf state (now (keys .entry)) (now (values .entry)) (now (next .entry)) (now (back .entry))) ⌝ }
+    ensures { λ r. ⌜ topAnswered (r .code) (worldOf state (now (keys .entry)) (now (values .entry)) (now (next .entry)) (now (back .entry))) (r .top) ≡ topRead (worldOf state (now (keys .entry)) (now (values .entry)) (now (next .entry)) (now (back .entry))) ⌝ }
 {
     let code = pool::examine(state, keys, values, next, back);
     if code != 0 {
         return TopRead {
             code,
-            present: false,
-            key0: 0,
-            key1: 0,
+            top: Top::Absent,
         };
     }
     let head = state.head;
     TopRead {
         code: 0,
-        present: head.topped,
-        key0: head.top0,
-        key1: head.top1,
+        top: top_if(head.topped, head.top0, head.top1),
     }
 }
 

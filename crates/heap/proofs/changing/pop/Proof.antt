@@ -1,11 +1,13 @@
 -- `heap::changing::pop` meets its contract: it is stopped by the examination, or what the engine does is the pop. Assumes nothing.
+use mathlib.Core.Path.{ap, _∙_}
 use borrow.Author.Needs.{needs}
 use Rattle.pool.specs.World.{worldOf}
 use Rattle.pool.specs.Sound.{Whole}
 use Rattle.pool.proofs.Fine.{whole-ready}
+use Rattle.heap.specs.Answers.{popAnswered}
 use Rattle.heap.specs.Calls.{popped}
-use Rattle.heap.proofs.CodeChecked.{stopped-empty, passed-whole}
-use Rattle.heap.proofs.CodeCalls.{popped-is}
+use Rattle.heap.proofs.CodeChecked.{stopped, passed-whole}
+use Rattle.heap.proofs.CodeCalls.{popped-given}
 use Rattle.heap.proofs.changing.pop.Statement.{statement}
 use Rattle.heap.proofs.changing.pop.Tie as tie
 
@@ -25,8 +27,8 @@ same-length-4 : tie.Need-same-length-4
 same-length-4 c = search needs
 
 returns : tie.Need-returns
-unfolding popped
-returns c = stopped-empty _ _ (c .before .examine .ensures) _ (c .if1 .taken)
+unfolding popped popAnswered
+returns c = stopped _ _ (c .before .examine .ensures) _ (c .if1 .taken)
 
 -- past the examination the pool is sound
 whole : (c : tie.Else1) → let x = c .before .before .before .before .before .before .before .before .before .before .args in Whole (worldOf (x .state) (x .keys .now) (x .values .now) (x .next .now) (x .back .now))
@@ -34,6 +36,9 @@ whole c = passed-whole _ _ (c .before .examine .ensures) (record { firsts = sear
 
 pop-requires : tie.Need-pop-requires
 pop-requires c κs = whole-ready (whole (c .before .before .before .before .before .before .before .before))
+
+given-if-requires : tie.Need-given-if-requires
+given-if-requires c κs = search needs
 
 same-length-5 : tie.Need-same-length-5
 same-length-5 c = search needs
@@ -48,7 +53,8 @@ same-length-8 : tie.Need-same-length-8
 same-length-8 c = search needs
 
 returns-2 : tie.Need-returns-2
-returns-2 c = popped-is (whole (c .before .before .before .before .before .before .before .before .before .before .before .before .before .before .before .before .before .before)) (c .before .before .before .before .before .before .before .before .before .pop .ensures)
+returns-2 c = ap (popAnswered _ _ _) (c .given-if .ensures)
+    ∙ popped-given (whole (c .before .before .before .before .before .before .before .before .before .before .before .before .before .before .before .before .before .before .before .before)) _ _ _ _ _ _ (c .before .before .before .before .before .before .before .before .before .before .before .pop .ensures)
 
 pub pop-spec : {M : Type 1} → statement M
 pop-spec =
@@ -61,6 +67,7 @@ pop-spec =
     same-length-4
     returns
     pop-requires
+    given-if-requires
     same-length-5
     same-length-6
     same-length-7

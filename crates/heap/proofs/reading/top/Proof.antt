@@ -1,7 +1,10 @@
 -- `heap::reading::top` meets its contract: it is stopped by the examination, or it reads the top. Assumes nothing.
+use mathlib.Core.Path.{ap, _∙_}
 use borrow.Author.Needs.{needs}
-use Rattle.heap.specs.Calls.{top, topRead}
-use Rattle.heap.proofs.CodeChecked.{stopped, passed}
+use Rattle.heap.specs.Answers.{topAnswered}
+use Rattle.heap.specs.Calls.{topRead}
+use Rattle.heap.proofs.CodeChecked.{stopped, passed-whole}
+use Rattle.heap.proofs.CodeCalls.{top-told}
 use Rattle.heap.proofs.reading.top.Statement.{statement}
 use Rattle.heap.proofs.reading.top.Tie as tie
 
@@ -9,12 +12,16 @@ examine-requires : tie.Need-examine-requires
 examine-requires c κs = search needs
 
 returns : tie.Need-returns
-unfolding topRead
+unfolding topRead topAnswered
 returns c = stopped _ _ (c .before .examine .ensures) _ (c .if1 .taken)
 
+top-if-requires : tie.Need-top-if-requires
+top-if-requires c κs = search needs
+
 returns-2 : tie.Need-returns-2
-unfolding top topRead
-returns-2 c = passed _ _ (c .before .before .examine .ensures) _ (c .before .if1 .left)
+returns-2 c =
+    ap (topAnswered _ _) (c .top-if .ensures)
+    ∙ top-told (passed-whole _ _ (c .before .before .before .examine .ensures) (record { firsts = search needs; lasts = search needs }) (c .before .before .if1 .left))
 
 pub top-spec : {M : Type 1} → statement M
-top-spec = tie.close (tie.spec examine-requires returns returns-2)
+top-spec = tie.close (tie.spec examine-requires returns top-if-requires returns-2)
