@@ -3,6 +3,13 @@
 // It serves kind 3 (release times, the earliest first) with 256 slots, from a fresh heap. If the batch
 // as a whole is refused it writes one byte, the code; input of more than 16,384 bytes is code 4. On a
 // read error it serves what it got.
+//
+// `any_pool` is the same for any kind and any number of slots, for the programs that are compared with
+// the crate.
+mod any_pool;
+
+pub use any_pool::serve_slots;
+pub use any_pool::small;
 
 // One byte with a code.
 pub fn tell(code: u8) {

@@ -1,9 +1,9 @@
--- `mirror::serve` lends as many key words, values and links as it says, none past the arrays.
+-- `gateway::serve_slots` lends as many key words, values and links as it says, none past the arrays.
 use native.Mathlib.Omega.{arith}
 use lib.ListN.{length-take}
 use borrow.Author.Needs.{needs}
-use Rattle.mirror.proofs.serve.Statement.{statement}
-use Rattle.mirror.proofs.serve.Tie as tie
+use Rattle.gateway.proofs.any_pool.serve_slots.Statement.{statement}
+use Rattle.gateway.proofs.any_pool.serve_slots.Tie as tie
 
 tell-requires : tie.Need-tell-requires
 tell-requires c κs = search needs
@@ -47,8 +47,8 @@ serve-requires c κs = search needs
 returns-2 : tie.Need-returns-2
 returns-2 c = search needs
 
-pub serve-spec : {M : Type 1} → statement M
-serve-spec =
+pub serve-slots-spec : {M : Type 1} → statement M
+serve-slots-spec =
     tie.close
     (tie.spec
     tell-requires
