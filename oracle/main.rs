@@ -6,6 +6,7 @@
 
 mod compare;
 mod judge;
+mod record;
 mod streams;
 
 fn fail(why: &str) -> ! {
@@ -20,6 +21,7 @@ fn main() {
     std::panic::set_hook(Box::new(|_| {}));
     match words.iter().map(String::as_str).collect::<Vec<_>>()[..] {
         ["compare", records, seed, ref mirror @ ..] if !mirror.is_empty() => compare::compare(number(records), number(seed), mirror),
-        _ => fail("usage: oracle compare RECORDS SEED MIRROR [WORDS..]"),
+        ["record", folder, seed] => record::record(folder.as_ref(), number(seed)),
+        _ => fail("usage: oracle compare RECORDS SEED MIRROR [WORDS..] | oracle record FOLDER SEED"),
     }
 }

@@ -115,3 +115,27 @@ pub fn stream(dice: &mut Dice, kind: u32, slots: u32, length: usize) -> Stream {
     }
     Stream { kind, slots, records }
 }
+
+/// Pushes until the pool is full, one more, and then `more` records of every sort.
+pub fn full(dice: &mut Dice, kind: u32, slots: u32, more: usize) -> Stream {
+    let style = dice.below(5);
+    let time = dice.below(1 << 20);
+    let mut s = stream(dice, kind, slots, more);
+    let pushes = (0..=slots as u64).map(|i| {
+        let key1 = if kind == 4 { word(dice, style, time) } else { 0 };
+        Record { op: 1, rest: 0, key0: word(dice, style, time + i), key1, value: i }
+    });
+    s.records.splice(0..0, pushes);
+    s
+}
+
+/// Every operation with a lone 1 in each of bytes 1 to 7, and in each word.
+pub fn lone(kind: u32, slots: u32) -> Stream {
+    let mut records = Vec::new();
+    for op in 1..=7 {
+        let zero = Record { op, rest: 0, key0: 0, key1: 0, value: 0 };
+        records.extend((0..7).map(|byte| Record { rest: 1 << (8 * byte), ..zero }));
+        records.extend([Record { key0: 1, ..zero }, Record { key1: 1, ..zero }, Record { value: 1, ..zero }]);
+    }
+    Stream { kind, slots, records }
+}
