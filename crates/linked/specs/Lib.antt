@@ -1,0 +1,2 @@
+-- The definitions that the contracts of `linked` cite.
+pub mod Parts
