@@ -10,7 +10,7 @@ thread_local!(static MEASURED: Cell<u32> = const { Cell::new(0) });
 
 /// A key that counts how often the crate measures it. Order and similarity are those of the key itself.
 #[derive(Clone, Copy, PartialEq, Eq, PartialOrd, Ord)]
-struct Counted<K>(K);
+pub struct Counted<K>(pub K);
 
 impl<K: Radix> Radix for Counted<K> {
     fn radix_similarity(&self, other: &Self) -> u32 {
@@ -21,7 +21,7 @@ impl<K: Radix> Radix for Counted<K> {
 }
 
 /// The four kinds of key, from their words and back.
-trait Key: Radix + Ord + Copy {
+pub trait Key: Radix + Ord + Copy {
     fn from_words(first: u64, second: u64) -> Self;
     fn words(self) -> (u64, u64);
 }
@@ -53,6 +53,15 @@ impl Key for Reverse<u64> {
     }
 }
 
+impl<K: Key> Key for Counted<K> {
+    fn from_words(first: u64, second: u64) -> Self {
+        Counted(K::from_words(first, second))
+    }
+    fn words(self) -> (u64, u64) {
+        self.0.words()
+    }
+}
+
 impl Key for (u64, u64) {
     fn from_words(first: u64, second: u64) -> Self {
         (first, second)
@@ -61,7 +70,7 @@ impl Key for (u64, u64) {
         self
     }
 }
-fn measured<T>(work: impl FnOnce() -> T) -> (T, u32) {
+pub fn measured<T>(work: impl FnOnce() -> T) -> (T, u32) {
     MEASURED.with(|m| m.set(0));
     let given = work();
     (given, MEASURED.with(|m| m.get()))
@@ -76,7 +85,7 @@ fn expected<K: Key>(stream: &Stream) -> Vec<u8> {
         if !r.formed(stream.kind) {
             code = 5;
         } else {
-            let k = Counted(K::from_words(r.key0, r.key1));
+            let k = Counted::<K>::from_words(r.key0, r.key1);
             match r.op {
                 1 if heap.len() < stream.slots as usize => {
                     if catch_unwind(AssertUnwindSafe(|| heap.push(k, r.value))).is_err() {
@@ -85,7 +94,7 @@ fn expected<K: Key>(stream: &Stream) -> Vec<u8> {
                 }
                 1 => code = if heap.top().is_some_and(|top| k > top) { 6 } else { 7 },
                 2 => match measured(|| heap.pop()) {
-                    (Some((k, v)), m) => (present, moves, key, value) = (1, m, k.0.words(), v),
+                    (Some((k, v)), m) => (present, moves, key, value) = (1, m, k.words(), v),
                     (None, _) => code = 8,
                 },
                 3 => moves = measured(|| heap.constrain()).1,
@@ -93,7 +102,7 @@ fn expected<K: Key>(stream: &Stream) -> Vec<u8> {
                 5 => heap.clear_to(k),
                 6 => {
                     if let Some(top) = heap.top() {
-                        (present, key) = (1, top.0.words());
+                        (present, key) = (1, top.words());
                     }
                 }
                 _ => {}
