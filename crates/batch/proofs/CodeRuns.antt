@@ -1,5 +1,6 @@
 -- What the code of a batch asks for, on plain values: the loop over its records, and what a batch gives at each way out.
 use mathlib.Core.Path.{_≡_, refl, sym, ap, ap₂, subst, _∙_}
+use mathlib.Core.Bool.{Bool}
 use mathlib.Core.List.{List, [], append-nil, append-assoc}
 use Prim.Native.Nat.{ℕ, suc, _+_, _-_, _*_, _/_, _%_, _≤_, _<_}
 use native.Mathlib.Nat.{sub-zero}
@@ -9,11 +10,12 @@ use borrow.Rule.Slice.PartMut.{midOf, putMid}
 use lib.ListN.{length, drop, length-drop, drop-of-length-le}
 use lib.Seq.{drop-drop, take-all}
 use Rattle.keys.specs.Ordered.{words}
+use Rattle.pool.specs.declared.state.Head.{Head}
 use Rattle.pool.specs.declared.state.State.{State}
-use Rattle.pool.specs.World.{World, worldOf}
+use Rattle.pool.specs.World.{Links, World, world, worldOf}
 use Rattle.pool.specs.Sound.{Whole}
 use Rattle.pool.specs.Examine.{examined}
-use Rattle.engine.specs.Outcome.{Outcome}
+use Rattle.engine.specs.Outcome.{Outcome, answered}
 use Rattle.heap.specs.Calls.{over}
 use Rattle.batch.specs.declared.records.Record.{Record}
 use Rattle.batch.specs.declared.runs.Batch.{Batch}
@@ -49,6 +51,11 @@ pub record Turn (n : ℕ) (bs : List ℕ) (w₀ : World) (as₀ : List ℕ) (w :
   pub backs : length (w .links .back) ≡ length (w₀ .links .back)
   pub answers : length as′ ≡ length as₀
   pub same : ranFrom n 0 bs w₀ as₀ ≡ ranFrom (n - i) i bs w as′
+
+-- a head that was made anew is the same
+pub served-anew : {g h : Head} {k : Links} {keys values : List ℕ} {code moves a b v n : ℕ} {present : Bool} {o : Outcome} → g ≡ h
+    → answered code (world h k keys values) moves present a b v n ≡ o → answered code (world g k keys values) moves present a b v n ≡ o
+served-anew {g} {h} {k} {keys} {values} {code} {moves} {a} {b} {v} {n} {present} e d = ap (λ (x : Head). answered code (world x k keys values) moves present a b v n) e ∙ d
 
 pub turn-first : (n : ℕ) (bs : List ℕ) (w : World) (as′ : List ℕ) → Whole w → Turn n bs w as′ w as′ 0
 turn-first n bs w as′ h = record { turns = omega arith; whole = h; keys = refl; values = refl; nexts = refl; backs = refl; answers = refl; same = rw (sub-zero n) }

@@ -42,7 +42,8 @@ fn serve_all(
     while i < n {
         let r = read(records, 32 * i);
         let s = serve(h, first, last, keys, values, next, back, r);
-        h = s.head;
+        let served = s.head;
+        h = served.anew();
         write(
             &mut answers[40 * i..],
             s.code,

@@ -18,6 +18,11 @@ module _ (h : Head) (k : Links) (keys : List ℕ) where
   unfolding drainUnless
   drain-gives c g a b t moves e p q d = ap (λ (x : Drained). shifted (toppedAt h a b) (x .to) (x .moves)) d ∙ rw (p, q, e)
 
+  -- a head that was made anew is the same
+  pub drain-anew : (c : ℕ) {g g′ : Head} (t : Links) (moves : ℕ) → g ≡ g′ → shifted g′ t moves ≡ drainUnless false h k keys c
+      → shifted g t moves ≡ drainUnless false h k keys c
+  drain-anew c t moves e d = ap (λ (x : Head). shifted x t moves) e ∙ d
+
   -- with a top, where b is the first busy bucket
   pub topped-by : (b : ℕ) (s t : Bool) → h .topped ≡ true → b ≡ busyFrom waitingChain (k .first) 0 → eqb b 0 ≡ s → eqb b waitingChain ≡ t → constrainCore h k keys ≡ drainUnless (s || t) h k keys b
   unfolding constrainCore

@@ -67,10 +67,20 @@ pub fn constrain(
         if b == pool::WAITING {
             return Shifted { head, moves: 0 };
         }
-        return drain(head, first, last, keys, next, back, b);
+        let d = drain(head, first, last, keys, next, back, b);
+        let drained = d.head;
+        return Shifted {
+            head: drained.anew(),
+            moves: d.moves,
+        };
     }
     if first[pool::WAITING] == 0 {
         return Shifted { head, moves: 0 };
     }
-    drain(head, first, last, keys, next, back, pool::WAITING)
+    let d = drain(head, first, last, keys, next, back, pool::WAITING);
+    let drained = d.head;
+    Shifted {
+        head: drained.anew(),
+        moves: d.moves,
+    }
 }

@@ -6,7 +6,7 @@ use borrow.Author.Needs.{needs}
 use lib.ListN.{length, length-take, length-drop}
 use Rattle.pool.specs.World.{links, world}
 use Rattle.pool.proofs.Fine.{whole-ready}
-use Rattle.batch.proofs.CodeRuns.{Turn, turn-first, turn-next, turn-last}
+use Rattle.batch.proofs.CodeRuns.{Turn, turn-first, served-anew, turn-next, turn-last}
 use Rattle.batch.proofs.runs.serve_all.Statement.{statement}
 use Rattle.batch.proofs.runs.serve_all.Tie as tie
 
@@ -34,31 +34,35 @@ read-requires c κs = search needs
 serve-requires : tie.Need-serve-requires Inv-loop μ-loop
 serve-requires c κs = whole-ready (c .before .before .before .before .before .before .before .before .loop .inv .whole)
 
+anew-requires : tie.Need-anew-requires Inv-loop μ-loop
+anew-requires c κs = search needs
+
 mul-write : tie.Need-mul-write Inv-loop μ-loop
-mul-write c = record { fits = omega (arith, room (c .before .before .before .before .before .before .before .before .before .before .before .before .before .before .before .before .before) .1) }
+mul-write c = record { fits = omega (arith, room (c .before .before .before .before .before .before .before .before .before .before .before .before .before .before .before .before .before .before) .1) }
 
 sub-write : tie.Need-sub-write Inv-loop μ-loop
-sub-write c = omega (arith, room (c .before .before .before .before .before .before .before .before .before .before .before .before .before .before .before .before .before) .0)
+sub-write c = omega (arith, room (c .before .before .before .before .before .before .before .before .before .before .before .before .before .before .before .before .before .before) .0)
 
 part-write-start : tie.Need-part-write-start Inv-loop μ-loop
-part-write-start c = omega (arith, room (c .before .before .before .before .before .before .before .before .before .before .before .before .before .before .before .before .before) .0)
+part-write-start c = omega (arith, room (c .before .before .before .before .before .before .before .before .before .before .before .before .before .before .before .before .before .before) .0)
 
 part-write-end : tie.Need-part-write-end Inv-loop μ-loop
 part-write-end c = search needs
 
 write-requires : tie.Need-write-requires Inv-loop μ-loop
-write-requires c κs = simp (length-take, length-drop) (omega (arith, room (c .before .before .before .before .before .before .before .before .before .before .before .before .before .before .before .before .before .before) .0))
+write-requires c κs = simp (length-take, length-drop) (omega (arith, room (c .before .before .before .before .before .before .before .before .before .before .before .before .before .before .before .before .before .before .before) .0))
 
 add-i : tie.Need-add-i Inv-loop μ-loop
-add-i c = record { fits = omega (arith, room (c .before .before .before .before .before .before .before .before .before .before .before .before .before .before .before .before .before .before .before .before .before) .1) }
+add-i c = record { fits = omega (arith, room (c .before .before .before .before .before .before .before .before .before .before .before .before .before .before .before .before .before .before .before .before .before .before) .1) }
 
 loop-less : tie.Need-loop-less Inv-loop μ-loop
 loop-less c = search needs
 
 loop-again : tie.Need-loop-again Inv-loop μ-loop
 loop-again c =
-    let l = c .before .before .before .before .before .before .before .before .before .before .before .before .before .before .before .before .before .before .before .before .before in
-    turn-next (l .before .loop .inv) (l .loop-test .taken) (l .before .before .before .before .before .before .before .before .pre .1 .1) (c .before .before .before .before .before .before .before .before .before .before .before .before .before .before .before .before .before .before .before .before .read .ensures) (c .before .before .before .before .before .before .before .before .before .before .before .before .before .serve .ensures) (c .before .before .write .ensures)
+    let l = c .before .before .before .before .before .before .before .before .before .before .before .before .before .before .before .before .before .before .before .before .before .before in
+    turn-next (l .before .loop .inv) (l .loop-test .taken) (l .before .before .before .before .before .before .before .before .pre .1 .1)
+    (c .before .before .before .before .before .before .before .before .before .before .before .before .before .before .before .before .before .before .before .before .before .read .ensures) (served-anew (c .before .before .before .before .anew .ensures) (c .before .before .before .before .before .before .before .before .before .before .before .before .before .before .serve .ensures)) (c .before .before .write .ensures)
 
 same-length : tie.Need-same-length Inv-loop μ-loop
 same-length c = search needs
@@ -88,6 +92,7 @@ serve-all-spec =
     mul-read
     read-requires
     serve-requires
+    anew-requires
     mul-write
     sub-write
     part-write-start

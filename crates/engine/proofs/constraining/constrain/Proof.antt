@@ -9,7 +9,7 @@ use borrow.Author.Needs.{needs}
 use Rattle.pool.specs.World.{waitingChain}
 use Rattle.pool.specs.Core.{drainUnless}
 use Rattle.pool.proofs.Steps.{busy-to, busy-some}
-use Rattle.engine.proofs.CodeConstrain.{topped-by, waiting-by}
+use Rattle.engine.proofs.CodeConstrain.{drain-anew, topped-by, waiting-by}
 use Rattle.engine.proofs.constraining.constrain.Statement.{statement}
 use Rattle.engine.proofs.constraining.constrain.Tie as tie
 
@@ -31,6 +31,9 @@ drain-requires c κs =
     let e = c .before .before .before .before .before .before .busy .ensures in
     (p .0, (p .1, (omega (arith, busy-to waitingChain first 0), subst (λ (b : ℕ). 0 < getD first b 0) (sym e) (busy-some waitingChain first 0 (omega (arith, busy-to waitingChain first 0))))))
 
+anew-requires : tie.Need-anew-requires
+anew-requires c κs = search needs
+
 same-length : tie.Need-same-length
 same-length c = search needs
 
@@ -38,7 +41,9 @@ same-length-2 : tie.Need-same-length-2
 same-length-2 c = search needs
 
 returns-3 : tie.Need-returns-3
-returns-3 c = c .before .before .before .before .drain .ensures ∙ sym (topped-by _ _ _ _ false false (c .before .before .before .before .before .before .before .before .before .before .before .before .before .if1 .taken) (c .before .before .before .before .before .before .before .before .before .before .before .busy .ensures) (ne-eqb _ _ (c .before .before .before .before .before .before .before .before .before .before .if2 .left)) (ne-eqb _ _ (c .before .before .before .before .before .before .before .before .before .if3 .left)))
+returns-3 c =
+    drain-anew _ _ _ _ _ _ (c .anew .ensures) (c .before .before .before .before .before .before .drain .ensures)
+    ∙ sym (topped-by _ _ _ _ false false (c .before .before .before .before .before .before .before .before .before .before .before .before .before .before .before .if1 .taken) (c .before .before .before .before .before .before .before .before .before .before .before .before .before .busy .ensures) (ne-eqb _ _ (c .before .before .before .before .before .before .before .before .before .before .before .before .if2 .left)) (ne-eqb _ _ (c .before .before .before .before .before .before .before .before .before .before .before .if3 .left)))
 
 element-copy-out-if4 : tie.Need-element-copy-out-if4
 element-copy-out-if4 c = search needs
@@ -50,6 +55,9 @@ returns-4 c = sym (waiting-by _ _ _ true (c .before .before .if1 .left) (eq-eqb 
 drain-requires-2 : tie.Need-drain-requires-2
 drain-requires-2 c κs = let p = c .before .before .before .before .before .before .before .before .before .before .pre in (p .0, (p .1, (omega arith, omega (arith, c .before .before .before .before .if4 .left))))
 
+anew-requires-2 : tie.Need-anew-requires-2
+anew-requires-2 c κs = search needs
+
 same-length-3 : tie.Need-same-length-3
 same-length-3 c = search needs
 
@@ -57,7 +65,9 @@ same-length-4 : tie.Need-same-length-4
 same-length-4 c = search needs
 
 returns-5 : tie.Need-returns-5
-returns-5 c = c .before .before .before .before .drain2 .ensures ∙ sym (waiting-by _ _ _ false (c .before .before .before .before .before .before .before .before .before .before .before .if1 .left) (ne-eqb _ _ (c .before .before .before .before .before .before .before .before .before .if4 .left)))
+returns-5 c =
+    drain-anew _ _ _ _ _ _ (c .anew2 .ensures) (c .before .before .before .before .before .before .drain2 .ensures)
+    ∙ sym (waiting-by _ _ _ false (c .before .before .before .before .before .before .before .before .before .before .before .before .before .if1 .left) (ne-eqb _ _ (c .before .before .before .before .before .before .before .before .before .before .before .if4 .left)))
 
 pub constrain-spec : {M : Type 1} → statement M
 constrain-spec =
@@ -67,12 +77,14 @@ constrain-spec =
     returns
     returns-2
     drain-requires
+    anew-requires
     same-length
     same-length-2
     returns-3
     element-copy-out-if4
     returns-4
     drain-requires-2
+    anew-requires-2
     same-length-3
     same-length-4
     returns-5)
