@@ -68,6 +68,10 @@ ready-pooled {h} r = (r .fine .small, record { words′ = ready-words (r .room) 
 
 -- ---- the operations
 
+pub clear-fresh : (w : World) {u : World} → u ≡ freshCore (w .head .kind) (length (w .links .next)) false 0 0 → answered 0 u 0 false 0 0 0 0 ≡ clearCore w
+unfolding clearCore done
+clear-fresh w e = ap (λ (u : World). done u 0) e
+
 module _ (w : World) (a b : ℕ) where
   pub clearTo-malformed : wellFormed (w .head .kind) b ≡ false → answered 5 w 0 false 0 0 0 0 ≡ clearToCore w a b
   unfolding clearToCore refused
@@ -90,9 +94,9 @@ module _ (w : World) (r : Record) where
   unfolding operatedCore constrainedCore done
   op-constrain e p = ap (λ (m : Moved). done (movedTo w m) (m .moves)) p ∙ rw e
 
-  pub op-clear : {u : World} → r .op ≡ 4 → u ≡ freshCore (w .head .kind) (length (w .links .next)) false 0 0 → answered 0 u 0 false 0 0 0 0 ≡ operatedCore w r
-  unfolding operatedCore clearCore done
-  op-clear e p = ap (λ (u : World). done u 0) p ∙ rw e
+  pub op-clear : {o : Outcome} → r .op ≡ 4 → o ≡ clearCore w → o ≡ operatedCore w r
+  unfolding operatedCore
+  op-clear e p = p ∙ rw e
 
   pub op-clearTo : {o : Outcome} → r .op ≡ 5 → o ≡ clearToCore w (r .key0) (r .key1) → o ≡ operatedCore w r
   unfolding operatedCore

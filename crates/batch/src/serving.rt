@@ -10,7 +10,7 @@ ghost use Rattle.pool.specs.World.{links, world};
 ghost use Rattle.pool.specs.Fine.{Ready};
 ghost use Rattle.pool.specs.Core.{freshCore};
 ghost use Rattle.engine.specs.Outcome.{answered};
-ghost use Rattle.engine.specs.Core.{clearToCore};
+ghost use Rattle.engine.specs.Core.{pushCore, popCore, clearCore, clearToCore};
 ghost use Rattle.batch.specs.Core.{Pooled, readOnly, operatedCore, servedCore};
 
 // What a record gives, and the head of the state afterwards.
@@ -83,34 +83,10 @@ fn operate(
 {
     let op = r.op;
     if op == 1 {
-        let e = engine::push(
-            head,
-            first,
-            last,
-            keys,
-            values,
-            next,
-            back,
-            r.key0,
-            r.key1,
-            r.value,
-        );
-        let grown = e.head;
-        return bare(e.code, grown, 0);
+        return push(head, first, last, keys, values, next, back, r);
     }
     if op == 2 {
-        let t = engine::pop(head, first, last, keys, values, next, back);
-        let left = t.head;
-        return Reply {
-            code: t.code,
-            head: left,
-            moves: t.moves,
-            present: t.code == 0,
-            key0: t.key0,
-            key1: t.key1,
-            value: t.value,
-            count: 0,
-        };
+        return pop(head, first, last, keys, values, next, back);
     }
     if op == 3 {
         let m = engine::constrain(head, first, last, keys, next, back);
@@ -118,24 +94,95 @@ fn operate(
         return bare(0, topped, m.moves);
     }
     if op == 4 {
-        let fresh = reset(
-            first,
-            last,
-            keys,
-            values,
-            next,
-            back,
-            head.kind,
-            false,
-            0,
-            0,
-        );
-        return bare(0, fresh, 0);
+        return clear(head, first, last, keys, values, next, back);
     }
     if op == 5 {
         return clear_to(head, first, last, keys, values, next, back, r.key0, r.key1);
     }
     read_only(head, op)
+}
+
+// The record's key and value.
+fn push(
+    head: Head,
+    first: &mut [u32; 131],
+    last: &mut [u32; 131],
+    keys: &mut [u64],
+    values: &mut [u64],
+    next: &mut [u32],
+    back: &mut [u32],
+    r: Record,
+) -> Reply
+    requires { ⌜ Ready head (links (now first) (now last) (now next) (now back)) (now keys) (now values) ⌝ }
+    ensures { λ s. ⌜ answered (s .code) (world (s .head) (links (now (first .exit)) (now (last .exit)) (now (next .exit)) (now (back .exit))) (now (keys .exit)) (now (values .exit))) (s .moves) (s .present) (s .key0) (s .key1) (s .value) (s .count) ≡ pushCore (world head (links (now (first .entry)) (now (last .entry)) (now (next .entry)) (now (back .entry))) (now (keys .entry)) (now (values .entry))) (r .key0) (r .key1) (r .value) ⌝ }
+{
+    let e = engine::push(
+        head,
+        first,
+        last,
+        keys,
+        values,
+        next,
+        back,
+        r.key0,
+        r.key1,
+        r.value,
+    );
+    let grown = e.head;
+    bare(e.code, grown, 0)
+}
+
+fn pop(
+    head: Head,
+    first: &mut [u32; 131],
+    last: &mut [u32; 131],
+    keys: &mut [u64],
+    values: &mut [u64],
+    next: &mut [u32],
+    back: &mut [u32],
+) -> Reply
+    requires { ⌜ Ready head (links (now first) (now last) (now next) (now back)) (now keys) (now values) ⌝ }
+    ensures { λ s. ⌜ answered (s .code) (world (s .head) (links (now (first .exit)) (now (last .exit)) (now (next .exit)) (now (back .exit))) (now (keys .exit)) (now (values .exit))) (s .moves) (s .present) (s .key0) (s .key1) (s .value) (s .count) ≡ popCore (world head (links (now (first .entry)) (now (last .entry)) (now (next .entry)) (now (back .entry))) (now (keys .entry)) (now (values .entry))) ⌝ }
+{
+    let t = engine::pop(head, first, last, keys, values, next, back);
+    let left = t.head;
+    Reply {
+        code: t.code,
+        head: left,
+        moves: t.moves,
+        present: t.code == 0,
+        key0: t.key0,
+        key1: t.key1,
+        value: t.value,
+        count: 0,
+    }
+}
+
+fn clear(
+    head: Head,
+    first: &mut [u32; 131],
+    last: &mut [u32; 131],
+    keys: &mut [u64],
+    values: &mut [u64],
+    next: &mut [u32],
+    back: &mut [u32],
+) -> Reply
+    requires { ⌜ Ready head (links (now first) (now last) (now next) (now back)) (now keys) (now values) ⌝ }
+    ensures { λ s. ⌜ answered (s .code) (world (s .head) (links (now (first .exit)) (now (last .exit)) (now (next .exit)) (now (back .exit))) (now (keys .exit)) (now (values .exit))) (s .moves) (s .present) (s .key0) (s .key1) (s .value) (s .count) ≡ clearCore (world head (links (now (first .entry)) (now (last .entry)) (now (next .entry)) (now (back .entry))) (now (keys .entry)) (now (values .entry))) ⌝ }
+{
+    let fresh = reset(
+        first,
+        last,
+        keys,
+        values,
+        next,
+        back,
+        head.kind,
+        false,
+        0,
+        0,
+    );
+    bare(0, fresh, 0)
 }
 
 fn clear_to(

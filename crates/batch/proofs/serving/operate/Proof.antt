@@ -1,14 +1,11 @@
 -- `batch::serving::operate` meets its contract: what each operation gives is what `operatedCore` says. Assumes nothing.
-use Rattle.batch.proofs.CodeServing.{told-replied, ready-pooled, op-push, op-pop, op-constrain, op-clear, op-clearTo, op-read}
+use Rattle.batch.proofs.CodeServing.{told-replied, op-push, op-pop, op-constrain, op-clear, op-clearTo, op-read}
 use borrow.Author.Needs.{needs}
 use Rattle.batch.proofs.serving.operate.Statement.{statement}
 use Rattle.batch.proofs.serving.operate.Tie as tie
 
 push-requires : tie.Need-push-requires
 push-requires c κs = search needs
-
-bare-requires : tie.Need-bare-requires
-bare-requires c κs = search needs
 
 same-length : tie.Need-same-length
 same-length c = search needs
@@ -23,7 +20,7 @@ same-length-4 : tie.Need-same-length-4
 same-length-4 c = search needs
 
 returns : tie.Need-returns
-returns c = told-replied (c .bare .ensures) (op-push _ _ (c .before .before .before .before .before .before .before .before .before .before .before .before .before .before .before .before .before .if1 .taken) (c .before .before .before .before .before .before .before .before .before .before .push .ensures))
+returns c = op-push _ _ (c .before .before .before .before .before .before .before .before .before .before .before .before .before .before .before .if1 .taken) (c .before .before .before .before .before .before .before .before .push .ensures)
 
 pop-requires : tie.Need-pop-requires
 pop-requires c κs = search needs
@@ -41,13 +38,13 @@ same-length-8 : tie.Need-same-length-8
 same-length-8 c = search needs
 
 returns-2 : tie.Need-returns-2
-returns-2 c = op-pop _ _ (c .before .before .before .before .before .before .before .before .before .before .before .before .before .before .before .before .before .if2 .taken) (c .before .before .before .before .before .before .before .before .before .before .pop .ensures)
+returns-2 c = op-pop _ _ (c .before .before .before .before .before .before .before .before .before .before .before .before .before .before .before .if2 .taken) (c .before .before .before .before .before .before .before .before .pop .ensures)
 
 constrain-requires : tie.Need-constrain-requires
 constrain-requires c κs = search needs
 
-bare-requires-2 : tie.Need-bare-requires-2
-bare-requires-2 c κs = search needs
+bare-requires : tie.Need-bare-requires
+bare-requires c κs = search needs
 
 same-length-9 : tie.Need-same-length-9
 same-length-9 c = search needs
@@ -59,13 +56,10 @@ same-length-11 : tie.Need-same-length-11
 same-length-11 c = search needs
 
 returns-3 : tie.Need-returns-3
-returns-3 c = told-replied (c .bare2 .ensures) (op-constrain _ _ (c .before .before .before .before .before .before .before .before .before .before .before .before .if3 .taken) (c .before .before .before .before .before .before .constrain .ensures))
+returns-3 c = told-replied (c .bare .ensures) (op-constrain _ _ (c .before .before .before .before .before .before .before .before .before .before .before .before .if3 .taken) (c .before .before .before .before .before .before .constrain .ensures))
 
-reset-requires : tie.Need-reset-requires
-reset-requires c κs = ready-pooled (c .before .before .before .before .before .before .before .before .before .before .before .before .before .before .pre)
-
-bare-requires-3 : tie.Need-bare-requires-3
-bare-requires-3 c κs = search needs
+clear-requires : tie.Need-clear-requires
+clear-requires c κs = search needs
 
 same-length-12 : tie.Need-same-length-12
 same-length-12 c = search needs
@@ -80,7 +74,7 @@ same-length-15 : tie.Need-same-length-15
 same-length-15 c = search needs
 
 returns-4 : tie.Need-returns-4
-returns-4 c = told-replied (c .bare3 .ensures) (op-clear _ _ (c .before .before .before .before .before .before .before .before .before .before .before .before .before .before .before .before .if4 .taken) (c .before .before .before .before .before .before .before .before .before .reset .ensures))
+returns-4 c = op-clear _ _ (c .before .before .before .before .before .before .before .before .before .before .before .before .before .before .before .if4 .taken) (c .before .before .before .before .before .before .before .before .clear .ensures)
 
 clear-to-requires : tie.Need-clear-to-requires
 clear-to-requires c κs = search needs
@@ -111,7 +105,6 @@ operate-spec =
     tie.close
     (tie.spec
     push-requires
-    bare-requires
     same-length
     same-length-2
     same-length-3
@@ -124,13 +117,12 @@ operate-spec =
     same-length-8
     returns-2
     constrain-requires
-    bare-requires-2
+    bare-requires
     same-length-9
     same-length-10
     same-length-11
     returns-3
-    reset-requires
-    bare-requires-3
+    clear-requires
     same-length-12
     same-length-13
     same-length-14
