@@ -1,10 +1,15 @@
 // A batch on a fresh heap of any kind, over a pool of any number of slots that is lent here.
 use crate::serve;
 use crate::tell;
-ghost use Prim.Native.Nat.{_≤_};
+ghost use mathlib.Core.Path.{_≡_};
+ghost use mathlib.Core.Bool.{cond, _&&_};
+ghost use Prim.Native.Nat.{_+_, _*_, _≤_};
+ghost use lib.Dec.{eqb};
 
 // The number in four bytes, if it is below 65,536; else 65,535, which is more than any kind or limit.
-pub fn small(a: u8, b: u8, c: u8, d: u8) -> u32 {
+pub fn small(a: u8, b: u8, c: u8, d: u8) -> u32
+    ensures { λ r. ⌜ r ≡ cond (eqb c 0 && eqb d 0) (a + 256 * b) 65535 ⌝ }
+{
     if c != 0 {
         return 65535;
     }
