@@ -35,14 +35,14 @@ impl Pair {
         self.0 > other.0
     }
 
-    // Leading zeros of the differing bits of the first words, then of the second words.
+    // One count of leading zeros: of the first words' differing bits, or, where those words are equal, of
+    // the second words'.
     pub fn distance(self, other: Pair) -> u32
         ensures { λ r. ⌜ r ≡ distance (width 4) (ordered 4 (self .0) (self .1)) (ordered 4 (other .0) (other .1)) ⌝ }
     {
-        let d = apart(self.0, other.0);
-        if d == 0 {
+        if self.0 == other.0 {
             return apart(self.1, other.1);
         }
-        64 + d
+        64 + apart(self.0, other.0)
     }
 }
