@@ -1,6 +1,6 @@
 -- Document 01's table of keys: the width and the ordered form of each kind, that ordered forms fit their width and tell well-formed
 -- keys apart, and what the distance and the order of two keys are in their words.
-use mathlib.Core.Path.{_≡_, refl, sym, ap, subst, _∙_}
+use mathlib.Core.Path.{_≡_, refl, sym, ap, ap₂, subst, _∙_}
 use mathlib.Core.Bool.{true}
 use mathlib.Core.Logic.{_≢_}
 use Prim.Native.Nat.{ℕ, _+_, _-_, _/_, _%_, _^_, _<_}
@@ -118,6 +118,21 @@ module _ (a b : ℕ) (ha : a < 2 ^ 64) (hb : b < 2 ^ 64) where
     pub order-reversed : ltb (ordered 3 c d) (ordered 3 a b) ≡ ltb a c
     unfolding ordered
     order-reversed = reverse-order 64 a c ha hc
+
+-- What two pairs keep with other second words any two keys keep: in the other kinds those words do not count.
+unread : {A : Type 0} (a b c d : ℕ) (f : ℕ → ℕ → ℕ → A) → f 4 (ordered 4 a 0) (ordered 4 c 0) ≡ f 4 (ordered 4 a b) (ordered 4 c d)
+    → (kind : ℕ) → f kind (ordered kind a 0) (ordered kind c 0) ≡ f kind (ordered kind a b) (ordered kind c d)
+unread a b c d f e kind = elim (ℕ-discrete kind 4) [ yes p ↦ rw p e | no q ↦ ap₂ (f kind) (sym (ordered-word a b kind q)) (sym (ordered-word c d kind q)) ]
+
+-- where the first words differ the second ones may be left unread, in every kind
+module _ (a b : ℕ) (ha : a < 2 ^ 64) (hb : b < 2 ^ 64) (c d : ℕ) (hc : c < 2 ^ 64) (hd : d < 2 ^ 64) (q : a ≢ c) where
+  pub distance-unread : (kind : ℕ) → distance (width kind) (ordered kind a 0) (ordered kind c 0) ≡ distance (width kind) (ordered kind a b) (ordered kind c d)
+  distance-unread = unread a b c d (λ kind x y. distance (width kind) x y)
+      (distance-first a 0 ha (pow-pos 64) c 0 hc (pow-pos 64) q ∙ sym (distance-first a b ha hb c d hc hd q))
+
+  pub order-unread : (kind : ℕ) → ltb (ordered kind c 0) (ordered kind a 0) ≡ ltb (ordered kind c d) (ordered kind a b)
+  order-unread = unread a b c d (λ _ x y. ltb y x)
+      (order-first a 0 ha (pow-pos 64) c 0 hc (pow-pos 64) q ∙ sym (order-first a b ha hb c d hc hd q))
 
 -- ---- signed numbers
 -- the ordered form of a number is that of its word

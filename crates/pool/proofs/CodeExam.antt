@@ -11,7 +11,7 @@ use borrow.Author.Tests.{eq-eqb, ne-eqb, le-leb, lt-leb, lt-ltb, le-ltb, ltb-tru
 use lib.Dec.{leb, ltb, eqb}
 use lib.ListN.{length, getD}
 use Rattle.rule.specs.Width.{distance}
-use Rattle.keys.specs.Ordered.{width, words, ordered}
+use Rattle.keys.specs.Ordered.{width, words}
 use Rattle.pool.specs.declared.state.Head.{Head}
 use Rattle.pool.specs.World.{waitingChain, freeChain, Links, World, size, firstOf, lastOf, keyWord0, keyWord1, slotKey, topOf, place, within}
 use Rattle.pool.specs.Sound.{limit}
@@ -61,16 +61,20 @@ module _ (h : Head) (keys back : List ℕ) (c p s : ℕ) where
   unfolding within place
   stands-waiting e t = stands-by t ∙ rw (eq-eqb (getD back s 0) p e) (eqb-sym waitingChain c)
 
-  module _ (e : getD back s 0 ≡ p) (t : h .topped ≡ true) {a b : ℕ} (ea : a ≡ keyWord0 (h .kind) keys s) (eb : b ≡ keyWord1 (h .kind) keys s) where
-    stands-topped : standsAt h keys back c p s ≡ (leb (ordered (h .kind) a b) (topOf h) && eqb (distance (width (h .kind)) (ordered (h .kind) a b) (topOf h)) c)
+  module _ (e : getD back s 0 ≡ p) (t : h .topped ≡ true) where
+    -- the key in the slot
+    abbrev key : ℕ
+    key = slotKey (h .kind) keys s
+
+    stands-topped : standsAt h keys back c p s ≡ (leb key (topOf h) && eqb (distance (width (h .kind)) key (topOf h)) c)
     unfolding within place
-    stands-topped = stands-by t ∙ rw (eq-eqb (getD back s 0) p e, ea, eb)
+    stands-topped = stands-by t ∙ rw (eq-eqb (getD back s 0) p e)
 
-    pub stands-above : ltb (topOf h) (ordered (h .kind) a b) ≡ true → standsAt h keys back c p s ≡ false
-    stands-above u = stands-topped ∙ rw (lt-leb (ordered (h .kind) a b) (topOf h) (ltb-true _ _ u))
+    pub stands-above : ltb (topOf h) key ≡ true → standsAt h keys back c p s ≡ false
+    stands-above u = stands-topped ∙ rw (lt-leb key (topOf h) (ltb-true _ _ u))
 
-    pub stands-home : ltb (topOf h) (ordered (h .kind) a b) ≡ false → {d : ℕ} → d ≡ distance (width (h .kind)) (ordered (h .kind) a b) (topOf h) → standsAt h keys back c p s ≡ eqb c d
-    stands-home u {d} ed = stands-topped ∙ rw (le-leb (ordered (h .kind) a b) (topOf h) (ltb-false _ _ u), ← ed) (eqb-sym d c)
+    pub stands-home : ltb (topOf h) key ≡ false → {d : ℕ} → d ≡ distance (width (h .kind)) key (topOf h) → standsAt h keys back c p s ≡ eqb c d
+    stands-home u {d} ed = stands-topped ∙ rw (le-leb key (topOf h) (ltb-false _ _ u), ← ed) (eqb-sym d c)
 
 pub empty-rest : (kind : ℕ) (keys values back : List ℕ) (s : ℕ) → getD back s 0 ≡ 0 → keyWord0 kind keys s ≡ 0 → keyWord1 kind keys s ≡ 0
     → emptyAt kind keys values back s ≡ eqb (getD values s 0) 0

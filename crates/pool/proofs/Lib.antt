@@ -26,6 +26,7 @@ pub mod Follows
 pub mod Fine
 pub mod Steps
 pub mod CodeState
+pub mod CodeAgainst
 pub mod CodeAlong
 pub mod CodeFresh
 pub mod CodeExam

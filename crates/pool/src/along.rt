@@ -1,7 +1,8 @@
 // Along a chain and along the buckets: the greatest key, the spread of a chain, the first busy bucket.
+use crate::against::slot_above_slot;
+use crate::against::slot_distance;
 use crate::chain::append;
 use crate::keywords::key0;
-use crate::keywords::key1;
 ghost use mathlib.Core.Path.{_≡_};
 ghost use Prim.Native.Nat.{_<_, _≤_};
 ghost use lib.ListN.{length};
@@ -21,7 +22,6 @@ pub fn greatest(kind: u32, keys: &[u64], next: &[u32], start: u32) -> u32
     let s = start as usize - 1;
     let mut best = start;
     let mut best0 = key0(kind, keys, s);
-    let mut best1 = key1(kind, keys, s);
     let mut at = next[s];
     let mut turns = 0;
     while turns < n {
@@ -29,12 +29,9 @@ pub fn greatest(kind: u32, keys: &[u64], next: &[u32], start: u32) -> u32
             break;
         }
         let i = at as usize - 1;
-        let a0 = key0(kind, keys, i);
-        let a1 = key1(kind, keys, i);
-        if keys::above(kind, a0, a1, best0, best1) {
+        if slot_above_slot(kind, keys, i, best as usize - 1, best0) {
             best = at;
-            best0 = a0;
-            best1 = a1;
+            best0 = key0(kind, keys, i);
         }
         at = next[i];
         turns += 1;
@@ -72,7 +69,7 @@ pub fn spread(
         let slot = at - 1;
         let i = slot as usize;
         at = next[i];
-        let d = keys::distance(kind, key0(kind, keys, i), key1(kind, keys, i), top0, top1);
+        let d = slot_distance(kind, keys, i, top0, top1);
         append(first, last, next, back, d as usize, slot);
         moves += 1;
     }

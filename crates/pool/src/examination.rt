@@ -1,5 +1,7 @@
 // The examination: is a pool fit and sound? One pass along every chain, with no marks and no memory
 // of its own: what is left of a budget of n slots is carried from chain to chain.
+use crate::against::slot_above;
+use crate::against::slot_distance;
 use crate::keywords::key0;
 use crate::keywords::key1;
 use crate::state::DONE;
@@ -75,12 +77,10 @@ fn stands(head: Head, keys: &[u64], back: &[u32], chain: usize, before: u32, slo
     if !head.topped {
         return chain == WAITING;
     }
-    let k0 = key0(head.kind, keys, slot);
-    let k1 = key1(head.kind, keys, slot);
-    if keys::above(head.kind, k0, k1, head.top0, head.top1) {
+    if slot_above(head.kind, keys, slot, head.top0, head.top1) {
         return false;
     }
-    chain == keys::distance(head.kind, k0, k1, head.top0, head.top1) as usize
+    chain == slot_distance(head.kind, keys, slot, head.top0, head.top1) as usize
 }
 
 // May the slot stand on the free chain? Its back link, key and value are 0.

@@ -3,6 +3,7 @@
 // `examine` is public and takes any state and any slices: it has no `requires`. The other functions
 // are the core's; only the crates above call them, after an examination. They ask for bounds (lengths,
 // every link at most n) and never that a pool is sound: along the links each loop ends by a budget.
+mod against;
 mod along;
 mod chain;
 mod examination;

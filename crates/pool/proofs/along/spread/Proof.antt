@@ -1,19 +1,17 @@
 -- `pool::along::spread` meets its contract. The loop's invariant: what is left to move from here leads to what there was to do at the start.
 use Prim.Native.Nat.{ℕ, _≤_, _-_}
-use mathlib.Core.Path.{_≡_, sym, ap, subst, _∙_}
+use mathlib.Core.Path.{_≡_, sym, subst, _∙_}
 use mathlib.Core.List.{List}
 use native.Mathlib.Omega.{arith}
 use native.Mathlib.Nat.{sub-zero}
 use lib.ListN.{length}
 use borrow.Author.Needs.{needs}
-use Rattle.rule.specs.Width.{distance}
-use Rattle.keys.specs.Ordered.{width, ordered}
-use Rattle.pool.specs.World.{Links, links}
+use Rattle.keys.specs.Ordered.{ordered}
+use Rattle.pool.specs.World.{Links, links, slotKey}
 use Rattle.pool.specs.Fine.{FineAt}
 use Rattle.pool.specs.Core.{emptied, drainFrom, drainChain}
 use Rattle.pool.proofs.Fine.{appended-fine, emptied-fine, drain-turn, drain-stop, drain-end, room-holds, fine-of}
 use Rattle.pool.proofs.Drain.{far-lt}
-use Rattle.pool.proofs.CodeAlong.{Read, read-key}
 use Rattle.pool.proofs.along.spread.Statement.{statement}
 use Rattle.pool.proofs.along.spread.Tie as tie
 
@@ -77,22 +75,17 @@ mul-at-2 c = search needs
 slice-read-at : tie.Need-slice-read-at Inv-loop μ-loop
 slice-read-at c = search needs
 
-key0-requires : tie.Need-key0-requires Inv-loop μ-loop
-key0-requires c κs = room-holds _ (c .before .before .before .before .before .before .before .before .pre .1 .0) (omega arith)
-
-key1-requires : tie.Need-key1-requires Inv-loop μ-loop
-key1-requires c κs = room-holds _ (c .before .before .before .before .before .before .before .before .before .pre .1 .0) (omega arith)
-
-distance-requires : tie.Need-distance-requires Inv-loop μ-loop
-distance-requires c κs = search needs
+slot-distance-requires : tie.Need-slot-distance-requires Inv-loop μ-loop
+slot-distance-requires c κs = room-holds _ (c .before .before .before .before .before .before .before .before .pre .1 .0) (omega arith)
 
 cast-append : tie.Need-cast-append Inv-loop μ-loop
 cast-append c = search needs
 
 append-requires : tie.Need-append-requires Inv-loop μ-loop
 append-requires c κs =
-    let x = c .before .before .before .before .before .before .before .before .before .before .before .before .before .before .before .args in
-    (fine-of (c .before .before .before .before .before .before .before .before .before .before .loop .inv .fine), (omega (arith, far-lt (x .kind) (ordered (x .kind) (c .before .before .before .before .before .before .key0 .result) (c .before .before .before .before .before .key1 .result)) (ordered (x .kind) (x .top0) (x .top1)), c .before .before .before .before .distance .ensures), omega arith))
+    let x = c .before .before .before .before .before .before .before .before .before .before .before .before .before .args in
+    let l = c .before .before .before .before .before .before .before .before .loop in
+    (fine-of (l .inv .fine), (omega (arith, far-lt (x .kind) (slotKey (x .kind) (x .keys .now) (l .at - 1)) (ordered (x .kind) (x .top0) (x .top1)), c .before .before .before .before .slot-distance .ensures), omega arith))
 
 add-moves : tie.Need-add-moves Inv-loop μ-loop
 add-moves c = search needs
@@ -102,17 +95,16 @@ loop-less c = search needs
 
 loop-again : tie.Need-loop-again Inv-loop μ-loop
 loop-again c =
-    let l = c .before .before .before .before .before .before .before .before .before .before .before .before .before .before .before .loop in
-    let x = c .before .before .before .before .before .before .before .before .before .before .before .before .before .before .before .before .before .before .before .before .args in
+    let l = c .before .before .before .before .before .before .before .before .before .before .before .before .before .loop in
+    let x = c .before .before .before .before .before .before .before .before .before .before .before .before .before .before .before .before .before .before .args in
     let n = length (x .next .now) in
     let top = ordered (x .kind) (x .top0) (x .top1) in
     let t : Links = links (l .first) (l .last) (l .next) (l .back) in
-    let a : Read (x .kind) (x .keys .now) (l .at) (c .before .before .before .before .before .before .before .before .before .before .before .key0 .result) (c .before .before .before .before .before .before .before .before .before .before .key1 .result) = record { word0 = c .before .before .before .before .before .before .before .before .before .before .before .key0 .ensures; word1 = c .before .before .before .before .before .before .before .before .before .before .key1 .ensures } in
     record {
       turns = omega arith;
       link = l .inv .fine .next .at (l .at - 1);
       fine = subst (FineAt n) (sym (c .before .before .before .before .append .ensures)) (appended-fine n t _ _ (l .inv .fine) (omega arith));
-      same = l .inv .same ∙ drain-turn (x .kind) (x .keys .now) top (l .at) (l .moves) t n _ _ (omega arith) (c .before .before .before .before .before .before .before .before .before .before .before .before .before .if1 .left) (c .before .before .before .before .before .before .before .before .before .distance .ensures ∙ ap (λ (k : ℕ). distance (width (x .kind)) k top) (read-key a)) (c .before .before .before .before .append .ensures);
+      same = l .inv .same ∙ drain-turn (x .kind) (x .keys .now) top (l .at) (l .moves) t n _ _ (omega arith) (c .before .before .before .before .before .before .before .before .before .before .before .if1 .left) (c .before .before .before .before .before .before .before .before .before .slot-distance .ensures) (c .before .before .before .before .append .ensures);
     }
 
 same-length : tie.Need-same-length Inv-loop μ-loop
@@ -159,9 +151,7 @@ spread-spec =
     cast-i
     mul-at-2
     slice-read-at
-    key0-requires
-    key1-requires
-    distance-requires
+    slot-distance-requires
     cast-append
     append-requires
     add-moves

@@ -18,34 +18,24 @@ returns c = sym (stands-astray _ _ _ _ _ _ (c .if1 .taken))
 returns-2 : tie.Need-returns-2
 returns-2 c = sym (stands-waiting _ _ _ _ _ _ (c .before .before .if1 .left) (not-true _ (c .if2 .taken)))
 
-key0-requires : tie.Need-key0-requires
-key0-requires c κs = search needs
-
-key1-requires : tie.Need-key1-requires
-key1-requires c κs = search needs
-
-above-requires : tie.Need-above-requires
-above-requires c κs = search needs
+slot-above-requires : tie.Need-slot-above-requires
+slot-above-requires c κs = search needs
 
 returns-3 : tie.Need-returns-3
 returns-3 c =
-    let d = c .before .before .before .before in
-    sym
-    (stands-above _ _ _ _ _ _ (d .before .before .if1 .left) (not-false _ (d .if2 .left)) (c .before .before .before .key0 .ensures) (c .before .before .key1 .ensures)
-    (sym (c .before .above .ensures) ∙ c .if3 .taken))
+    let d = c .before .before in
+    sym (stands-above _ _ _ _ _ _ (d .before .before .if1 .left) (not-false _ (d .if2 .left)) (sym (c .before .slot-above .ensures) ∙ c .if3 .taken))
 
-distance-requires : tie.Need-distance-requires
-distance-requires c κs = search needs
+slot-distance-requires : tie.Need-slot-distance-requires
+slot-distance-requires c κs = search needs
 
 cast-result : tie.Need-cast-result
 cast-result c = search needs
 
 returns-4 : tie.Need-returns-4
 returns-4 c =
-    let d = c .before .before .before .before .before in
-    sym
-    (stands-home _ _ _ _ _ _ (d .before .before .if1 .left) (not-false _ (d .if2 .left)) (c .before .before .before .before .key0 .ensures) (c .before .before .before .key1 .ensures)
-    (sym (c .before .before .above .ensures) ∙ c .before .if3 .left) (c .distance .ensures))
+    let d = c .before .before .before in
+    sym (stands-home _ _ _ _ _ _ (d .before .before .if1 .left) (not-false _ (d .if2 .left)) (sym (c .before .before .slot-above .ensures) ∙ c .before .if3 .left) (c .slot-distance .ensures))
 
 pub stands-spec : {M : Type 1} → statement M
 stands-spec =
@@ -55,10 +45,8 @@ stands-spec =
     shared-slice-read-if1
     returns
     returns-2
-    key0-requires
-    key1-requires
-    above-requires
+    slot-above-requires
     returns-3
-    distance-requires
+    slot-distance-requires
     cast-result
     returns-4)
