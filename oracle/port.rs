@@ -76,7 +76,7 @@ pub struct Port {
 }
 
 impl Port {
-    /// A fresh heap of a kind with one key word.
+    /// A fresh heap.
     pub fn new(kind: u32, slots: usize) -> Self {
         let mut p = Port {
             kind: 0,
@@ -86,7 +86,7 @@ impl Port {
             top1: 0,
             first: [0; 131],
             last: [0; 131],
-            keys: vec![0; slots],
+            keys: vec![0; if kind == 4 { 2 * slots } else { slots }],
             values: vec![0; slots],
             next: vec![0; slots],
             back: vec![0; slots],

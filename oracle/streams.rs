@@ -1,6 +1,7 @@
 //! Streams of records, by dice.
 
 /// splitmix64
+#[derive(Clone)]
 pub struct Dice(pub u64);
 
 impl Dice {

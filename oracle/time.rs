@@ -1,8 +1,9 @@
 //! Times the crate and the port's batch on the same records, and the port's examination by itself.
 //!
 //! Both sides read records of 32 bytes and write answers of 40. The clock rises by one with each record, and a push is due
-//! at the clock plus a number below 1,000. First every byte of the answers of both is compared, the moves too; then whole
-//! passes over all batches are timed, the crate's and the port's in turn, and their answers held against the first ones.
+//! at the clock plus a number below 1,000; `Form` says how that time is written as a key. First every byte of the
+//! answers of both is compared, the moves too; then whole passes over all batches are timed, the crate's and the port's in
+//! turn, and their answers held against the first ones.
 
 #[allow(dead_code)]
 mod judge;
@@ -17,7 +18,6 @@ use std::cmp::Reverse;
 use std::time::{Duration, Instant};
 use streams::{Dice, Record};
 
-const KIND: u32 = 3;
 const SLOTS: usize = 4096;
 const BATCHES: usize = 1000;
 const RECORDS: usize = 4000;
@@ -36,17 +36,31 @@ const SHAPES: [Shape; 2] = [
     Shape { name: "interleaved", held: 1000, pushes: |i| i % 2 == 0 },
 ];
 
+/// How a release time is written as a key. In each form the earliest time is the greatest key, so that the pops of a shape
+/// give the same values with the same moves.
+#[derive(Clone, Copy)]
+struct Form {
+    name: &'static str,
+    words: fn(u64) -> (u64, u64),
+}
+
+const TIME: Form = Form { name: "kind 3", words: |due| (due, 0) };
+const PAIR_BY_FIRST: Form = Form { name: "kind 4, different first words", words: |due| (u64::MAX - due, 0) };
+const PAIR_BY_SECOND: Form = Form { name: "kind 4, equal first words", words: |due| (0, u64::MAX - due) };
+
 /// The batches of a shape, one after the other; the first has the entries that are held before.
+#[derive(Clone)]
 struct Batches {
     shape: Shape,
+    form: Form,
     dice: Dice,
     clock: u64,
     made: usize,
 }
 
 impl Batches {
-    fn new(shape: Shape) -> Self {
-        Batches { shape, dice: Dice(1), clock: 0, made: 0 }
+    fn new(shape: Shape, form: Form) -> Self {
+        Batches { shape, form, dice: Dice(1), clock: 0, made: 0 }
     }
 
     fn next(&mut self, out: &mut Vec<u8>) {
@@ -55,8 +69,8 @@ impl Batches {
         for i in 0..length {
             self.clock += 1;
             if self.made == 0 || (self.shape.pushes)(i) {
-                let key0 = self.clock + self.dice.below(1000);
-                Record { op: 1, rest: 0, key0, key1: 0, value: self.dice.next() }.bytes(out);
+                let (key0, key1) = (self.form.words)(self.clock + self.dice.below(1000));
+                Record { op: 1, rest: 0, key0, key1, value: self.dice.next() }.bytes(out);
             } else {
                 Record { op: 2, rest: 0, key0: 0, key1: 0, value: 0 }.bytes(out);
             }
@@ -65,19 +79,24 @@ impl Batches {
     }
 }
 
-/// A key of the crate that may tell how many moves there were.
+/// A key of the crate that may tell how many moves there were. As a user of the crate has it, nothing is counted.
 trait Timed: Key {
-    fn moves<T>(work: impl FnOnce() -> T) -> (T, u32);
-}
-
-/// As a user of the crate has it: nothing is counted.
-impl Timed for Reverse<u64> {
+    const KIND: u32;
     fn moves<T>(work: impl FnOnce() -> T) -> (T, u32) {
         (work(), 0)
     }
 }
 
-impl Timed for Counted<Reverse<u64>> {
+impl Timed for Reverse<u64> {
+    const KIND: u32 = 3;
+}
+
+impl Timed for (u64, u64) {
+    const KIND: u32 = 4;
+}
+
+impl<K: Timed> Timed for Counted<K> {
+    const KIND: u32 = K::KIND;
     fn moves<T>(work: impl FnOnce() -> T) -> (T, u32) {
         measured(work)
     }
@@ -91,83 +110,96 @@ fn read(bytes: &[u8]) -> Record {
 
 /// One record on the crate's heap: code, whether a key follows, moves, key and value. The batches have no late push, so the
 /// panic need not be caught: the key is compared with the top first.
-fn served<K: Timed>(heap: &mut RadixHeapMap<K, u64>, r: &Record) -> (u8, u8, u32, u64, u64) {
+fn served<K: Timed>(heap: &mut RadixHeapMap<K, u64>, r: &Record) -> (u8, u8, u32, (u64, u64), u64) {
+    let bare = |code, moves| (code, 0, moves, (0, 0), 0);
     let key = K::from_words(r.key0, r.key1);
     match r.op {
-        _ if !r.formed(KIND) => (5, 0, 0, 0, 0),
-        1 if heap.top().is_some_and(|top| key > top) => (6, 0, 0, 0, 0),
-        1 if heap.len() == SLOTS => (7, 0, 0, 0, 0),
+        _ if !r.formed(K::KIND) => bare(5, 0),
+        1 if heap.top().is_some_and(|top| key > top) => bare(6, 0),
+        1 if heap.len() == SLOTS => bare(7, 0),
         1 => {
             heap.push(key, r.value);
-            (0, 0, 0, 0, 0)
+            bare(0, 0)
         }
         2 => match K::moves(|| heap.pop()) {
-            (Some((k, v)), moves) => (0, 1, moves, k.words().0, v),
-            (None, _) => (8, 0, 0, 0, 0),
+            (Some((k, v)), moves) => (0, 1, moves, k.words(), v),
+            (None, _) => bare(8, 0),
         },
-        3 => (0, 0, K::moves(|| heap.constrain()).1, 0, 0),
+        3 => bare(0, K::moves(|| heap.constrain()).1),
         4 => {
             heap.clear();
-            (0, 0, 0, 0, 0)
+            bare(0, 0)
         }
         5 => {
             heap.clear_to(key);
-            (0, 0, 0, 0, 0)
+            bare(0, 0)
         }
-        6 => heap.top().map_or((0, 0, 0, 0, 0), |top| (0, 1, 0, top.words().0, 0)),
-        _ => (0, 0, 0, 0, 0),
+        6 => heap.top().map_or(bare(0, 0), |top| (0, 1, 0, top.words(), 0)),
+        _ => bare(0, 0),
     }
 }
 
 /// A batch by the crate: records in, answers out.
 fn by_crate<K: Timed>(heap: &mut RadixHeapMap<K, u64>, records: &[u8], answers: &mut [u8]) {
     for (r, a) in records.chunks_exact(32).zip(answers.chunks_exact_mut(40)) {
-        let (code, present, moves, key, value) = served(heap, &read(r));
+        let (code, present, moves, (key0, key1), value) = served(heap, &read(r));
         let head = code as u64 | (present as u64) << 8 | (moves as u64) << 32;
         a[0..8].copy_from_slice(&head.to_le_bytes());
         a[8..16].copy_from_slice(&(heap.len() as u64).to_le_bytes());
-        a[16..24].copy_from_slice(&key.to_le_bytes());
-        a[24..32].copy_from_slice(&0u64.to_le_bytes());
+        a[16..24].copy_from_slice(&key0.to_le_bytes());
+        a[24..32].copy_from_slice(&key1.to_le_bytes());
         a[32..40].copy_from_slice(&value.to_le_bytes());
     }
 }
 
-/// A number for the answers without their moves, which the crate does not tell.
-fn digest(answers: &[u8]) -> u64 {
-    answers.chunks_exact(8).enumerate().fold(0u64, |sum, (i, w)| {
-        let w = u64::from_le_bytes(w.try_into().expect("eight bytes"));
-        let w = if i % 5 == 0 { w & 0xffff_ffff } else { w };
-        (sum ^ w).wrapping_mul(0x9e37_79b9_7f4a_7c15).rotate_left(23)
-    })
+/// A number for words, in their order.
+fn digest(words: impl Iterator<Item = u64>) -> u64 {
+    words.fold(0u64, |sum, w| (sum ^ w).wrapping_mul(0x9e37_79b9_7f4a_7c15).rotate_left(23))
 }
 
-/// The digests of all batches, after every byte of both sides' answers was compared. Tells the moves too.
-fn compared(shape: Shape) -> Vec<u64> {
-    let mut heap: RadixHeapMap<Counted<Reverse<u64>>, u64> = RadixHeapMap::new();
-    let mut port = Port::new(KIND, SLOTS);
-    let (mut records, mut batches, mut digests) = (Vec::new(), Batches::new(shape), Vec::new());
+fn words(bytes: &[u8]) -> impl Iterator<Item = u64> + '_ {
+    bytes.chunks_exact(8).map(|w| u64::from_le_bytes(w.try_into().expect("eight bytes")))
+}
+
+/// The answers without their moves, which the crate does not tell.
+fn told(answers: &[u8]) -> u64 {
+    digest(words(answers).enumerate().map(|(i, w)| if i % 5 == 0 { w & 0xffff_ffff } else { w }))
+}
+
+/// The answers without their keys, which are the same in every form.
+fn formless(answers: &[u8]) -> u64 {
+    digest(words(answers).enumerate().map(|(i, w)| if i % 5 == 2 || i % 5 == 3 { 0 } else { w }))
+}
+
+/// What each batch is told, and the whole without its keys, after every byte of both sides' answers was compared. Says the
+/// moves too.
+fn compared<K: Timed>(mut batches: Batches) -> (Vec<u64>, u64) {
+    let mut heap: RadixHeapMap<Counted<K>, u64> = RadixHeapMap::new();
+    let mut port = Port::new(K::KIND, SLOTS);
+    let (mut records, mut each, mut whole) = (Vec::new(), Vec::new(), 0);
     let (mut a, mut b) = (vec![0; 40 * RECORDS], vec![0; 40 * RECORDS]);
     let mut moves = 0;
-    for _ in 0..=BATCHES {
+    for i in 0..=BATCHES {
         batches.next(&mut records);
         let n = 40 * (records.len() / 32);
         by_crate(&mut heap, &records, &mut a[..n]);
         port.batch(&records, &mut b[..n]);
-        assert!(a[..n] == b[..n], "the answers differ in batch {}", digests.len());
-        assert!(a[..n].chunks(40).all(|answer| answer[0] == 0), "a record was refused in batch {}", digests.len());
-        moves += a[..n].chunks(40).map(|answer| u32::from_le_bytes(answer[4..8].try_into().expect("four bytes")) as u64).sum::<u64>();
-        digests.push(digest(&a[..n]));
+        assert!(a[..n] == b[..n], "the answers differ in batch {i}");
+        assert!(a[..n].chunks(40).all(|answer| answer[0] == 0), "a record was refused in batch {i}");
+        moves += words(&a[..n]).step_by(5).map(|w| w >> 32).sum::<u64>();
+        each.push(told(&a[..n]));
+        whole = digest([whole, formless(&a[..n])].into_iter());
     }
     let pops = (BATCHES * RECORDS / 2) as f64;
-    println!("{}: every byte of the answers equal, none refused, {:.2} moves for each pop", shape.name, moves as f64 / pops);
-    digests
+    println!("{}, {}: every byte of the answers equal, none refused, {:.2} moves for each pop", batches.form.name, batches.shape.name, moves as f64 / pops);
+    (each, whole)
 }
 
 /// How long all batches take: making the records and looking at the answers is not timed, nor is the first batch.
-fn pass(shape: Shape, digests: &[u64], mut work: impl FnMut(&[u8], &mut [u8])) -> Duration {
-    let (mut records, mut batches, mut total) = (Vec::new(), Batches::new(shape), Duration::ZERO);
+fn pass(mut batches: Batches, expected: &[u64], mut work: impl FnMut(&[u8], &mut [u8])) -> Duration {
+    let (mut records, mut total) = (Vec::new(), Duration::ZERO);
     let mut answers = vec![0; 40 * RECORDS];
-    for (i, expected) in digests.iter().enumerate() {
+    for (i, expected) in expected.iter().enumerate() {
         batches.next(&mut records);
         let n = 40 * (records.len() / 32);
         let start = Instant::now();
@@ -175,25 +207,25 @@ fn pass(shape: Shape, digests: &[u64], mut work: impl FnMut(&[u8], &mut [u8])) -
         if i > 0 {
             total += start.elapsed();
         }
-        assert!(digest(&answers[..n]) == *expected, "the answers differ in batch {i}");
+        assert!(told(&answers[..n]) == *expected, "the answers differ in batch {i}");
     }
     total
 }
 
-fn crate_pass(shape: Shape, digests: &[u64]) -> Duration {
-    let mut heap: RadixHeapMap<Reverse<u64>, u64> = RadixHeapMap::new();
-    pass(shape, digests, |records, answers| by_crate(&mut heap, records, answers))
+fn crate_pass<K: Timed>(batches: Batches, expected: &[u64]) -> Duration {
+    let mut heap: RadixHeapMap<K, u64> = RadixHeapMap::new();
+    pass(batches, expected, |records, answers| by_crate(&mut heap, records, answers))
 }
 
-fn port_pass(shape: Shape, digests: &[u64]) -> Duration {
-    let mut port = Port::new(KIND, SLOTS);
-    pass(shape, digests, |records, answers| port.batch(records, answers))
+fn port_pass<K: Timed>(batches: Batches, expected: &[u64]) -> Duration {
+    let mut port = Port::new(K::KIND, SLOTS);
+    pass(batches, expected, |records, answers| port.batch(records, answers))
 }
 
 /// The examination by itself, on the pool as each batch finds it.
-fn examination_pass(shape: Shape, digests: &[u64]) -> Duration {
-    let (mut port, mut total) = (Port::new(KIND, SLOTS), Duration::ZERO);
-    pass(shape, digests, |records, answers| {
+fn examination_pass<K: Timed>(batches: Batches, expected: &[u64]) -> Duration {
+    let (mut port, mut total) = (Port::new(K::KIND, SLOTS), Duration::ZERO);
+    pass(batches, expected, |records, answers| {
         let start = Instant::now();
         port.examine();
         if records.len() == 32 * RECORDS {
@@ -210,24 +242,34 @@ fn spread(mut times: Vec<f64>) -> [f64; 3] {
     [times[0], times[times.len() / 2], times[times.len() - 1]]
 }
 
-fn main() {
+/// Times both on the batches of a shape, with keys of a form. Gives the number of the answers without their keys.
+fn timed<K: Timed>(shape: Shape, form: Form) -> u64 {
     let each = (BATCHES * RECORDS) as f64;
     let per_record = |d: Duration| d.as_nanos() as f64 / each;
-    println!("{BATCHES} batches of {RECORDS} records, kind {KIND}, {SLOTS} slots, {PASSES} passes; ns per record: median (best to worst)");
+    let batches = Batches::new(shape, form);
+    let (expected, whole) = compared::<K>(batches.clone());
+    let (mut c, mut p, mut e) = (Vec::new(), Vec::new(), Vec::new());
+    for _ in 0..PASSES {
+        c.push(per_record(crate_pass::<K>(batches.clone(), &expected)));
+        p.push(per_record(port_pass::<K>(batches.clone(), &expected)));
+        e.push(per_record(examination_pass::<K>(batches.clone(), &expected)));
+    }
+    let ratios = spread(c.iter().zip(&p).map(|(c, p)| p / c).collect());
+    let shares = spread(p.iter().zip(&e).map(|(p, e)| 100.0 * e / p).collect());
+    for (what, [best, median, worst]) in [("crate", spread(c)), ("port", spread(p)), ("examination", spread(e))] {
+        println!("  {what:<12} {median:6.2} ({best:.2} to {worst:.2})");
+    }
+    println!("  ratio        {:6.2} ({:.2} to {:.2})", ratios[1], ratios[0], ratios[2]);
+    println!("  examination's share of the port's time, percent: {:.1} ({:.1} to {:.1})", shares[1], shares[0], shares[2]);
+    whole
+}
+
+fn main() {
+    println!("{BATCHES} batches of {RECORDS} records, {SLOTS} slots, {PASSES} passes; ns per record: median (best to worst)");
     for shape in SHAPES {
-        let digests = compared(shape);
-        let (mut c, mut p, mut e) = (Vec::new(), Vec::new(), Vec::new());
-        for _ in 0..PASSES {
-            c.push(per_record(crate_pass(shape, &digests)));
-            p.push(per_record(port_pass(shape, &digests)));
-            e.push(per_record(examination_pass(shape, &digests)));
+        let whole = timed::<Reverse<u64>>(shape, TIME);
+        for form in [PAIR_BY_FIRST, PAIR_BY_SECOND] {
+            assert!(timed::<(u64, u64)>(shape, form) == whole, "{}: values, moves or lengths differ from kind 3", form.name);
         }
-        let ratios = spread(c.iter().zip(&p).map(|(c, p)| p / c).collect());
-        let shares = spread(p.iter().zip(&e).map(|(p, e)| 100.0 * e / p).collect());
-        for (what, [best, median, worst]) in [("crate", spread(c)), ("port", spread(p)), ("examination", spread(e))] {
-            println!("  {what:<12} {median:6.2} ({best:.2} to {worst:.2})");
-        }
-        println!("  ratio        {:6.2} ({:.2} to {:.2})", ratios[1], ratios[0], ratios[2]);
-        println!("  examination's share of the port's time, percent: {:.1} ({:.1} to {:.1})", shares[1], shares[0], shares[2]);
     }
 }
