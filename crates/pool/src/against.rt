@@ -1,5 +1,5 @@
 // The key of a slot against another. "For pairs the second word counts only if the first words are
-// equal": elsewhere it is not read.
+// equal": elsewhere it is not read, and 0 stands for it.
 use crate::keywords::key0;
 use crate::keywords::key1;
 ghost use mathlib.Core.Path.{_≡_};
