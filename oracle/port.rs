@@ -11,6 +11,7 @@ extern "C" {
         top1: *mut u64,
         first: *mut [u32; 131],
         last: *mut [u32; 131],
+        busy: *mut [u64; 3],
         keys: *mut u64,
         key_words: usize,
         values: *mut u64,
@@ -28,6 +29,7 @@ extern "C" {
         top1: *mut u64,
         first: *mut [u32; 131],
         last: *mut [u32; 131],
+        busy: *mut [u64; 3],
         keys: *mut u64,
         key_words: usize,
         values: *mut u64,
@@ -50,6 +52,7 @@ extern "C" {
         top1: u64,
         first: *const [u32; 131],
         last: *const [u32; 131],
+        busy: *const [u64; 3],
         keys: *const u64,
         key_words: usize,
         values: *const u64,
@@ -69,6 +72,7 @@ pub struct Port {
     top1: u64,
     first: [u32; 131],
     last: [u32; 131],
+    busy: [u64; 3],
     keys: Vec<u64>,
     values: Vec<u64>,
     next: Vec<u32>,
@@ -86,6 +90,7 @@ impl Port {
             top1: 0,
             first: [0; 131],
             last: [0; 131],
+            busy: [0; 3],
             keys: vec![0; if kind == 4 { 2 * slots } else { slots }],
             values: vec![0; slots],
             next: vec![0; slots],
@@ -102,6 +107,7 @@ impl Port {
                 &mut p.top1,
                 &mut p.first,
                 &mut p.last,
+                &mut p.busy,
                 p.keys.as_mut_ptr(),
                 p.keys.len(),
                 p.values.as_mut_ptr(),
@@ -113,7 +119,17 @@ impl Port {
             )
         };
         assert!(code == 0, "a fresh heap was refused: {code}");
+        p.words_are_right();
         p
+    }
+
+    /// Bit b of the three words is set exactly when bucket b has a first link, and no other bit is.
+    pub fn words_are_right(&self) {
+        let mut words = [0; 3];
+        for b in (0..129).filter(|&b| self.first[b] != 0) {
+            words[b / 64] |= 1 << (b % 64);
+        }
+        assert!(self.busy == words, "the busy words are {:x?}, those of the first links {words:x?}", self.busy);
     }
 
     pub fn batch(&mut self, records: &[u8], answers: &mut [u8]) {
@@ -128,6 +144,7 @@ impl Port {
                 &mut self.top1,
                 &mut self.first,
                 &mut self.last,
+                &mut self.busy,
                 self.keys.as_mut_ptr(),
                 self.keys.len(),
                 self.values.as_mut_ptr(),
@@ -157,6 +174,7 @@ impl Port {
                 self.top1,
                 &self.first,
                 &self.last,
+                &self.busy,
                 self.keys.as_ptr(),
                 self.keys.len(),
                 self.values.as_ptr(),

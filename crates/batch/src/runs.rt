@@ -24,6 +24,7 @@ fn serve_all(
     head: Head,
     first: &mut [u32; 131],
     last: &mut [u32; 131],
+    busy: &mut [u64; 3],
     keys: &mut [u64],
     values: &mut [u64],
     next: &mut [u32],
@@ -32,16 +33,16 @@ fn serve_all(
     answers: &mut [u8],
     n: usize,
 ) -> Head
-    requires { ⌜ Whole (world head (links (now first) (now last) (now next) (now back)) (now keys) (now values)) ⌝ }
+    requires { ⌜ Whole (world head (links (now first) (now last) (now next) (now back) (now busy)) (now keys) (now values)) ⌝ }
     requires { ⌜ 32 * n ≤ length (now records) ⌝ }
     requires { ⌜ 40 * n ≤ length (now answers) ⌝ }
-    ensures { λ r. ⌜ going (world r (links (now (first .exit)) (now (last .exit)) (now (next .exit)) (now (back .exit))) (now (keys .exit)) (now (values .exit))) (now (answers .exit)) ≡ ranFrom n 0 (now (records .entry)) (world head (links (now (first .entry)) (now (last .entry)) (now (next .entry)) (now (back .entry))) (now (keys .entry)) (now (values .entry))) (now (answers .entry)) ⌝ }
+    ensures { λ r. ⌜ going (world r (links (now (first .exit)) (now (last .exit)) (now (next .exit)) (now (back .exit)) (now (busy .exit))) (now (keys .exit)) (now (values .exit))) (now (answers .exit)) ≡ ranFrom n 0 (now (records .entry)) (world head (links (now (first .entry)) (now (last .entry)) (now (next .entry)) (now (back .entry)) (now (busy .entry))) (now (keys .entry)) (now (values .entry))) (now (answers .entry)) ⌝ }
 {
     let mut h = head;
     let mut i: usize = 0;
     while i < n {
         let r = read(records, 32 * i);
-        let s = serve(h, first, last, keys, values, next, back, r);
+        let s = serve(h, first, last, busy, keys, values, next, back, r);
         let served = s.head;
         h = served.anew();
         write(
@@ -85,10 +86,12 @@ pub fn run(
     }
     let mut first = state.first;
     let mut last = state.last;
+    let mut busy = state.busy;
     let head = serve_all(
         state.head,
         &mut first,
         &mut last,
+        &mut busy,
         keys,
         values,
         next,
@@ -99,7 +102,12 @@ pub fn run(
     );
     Batch {
         code: pool::DONE,
-        state: State { head, first, last },
+        state: State {
+            head,
+            first,
+            last,
+            busy,
+        },
         count: n,
     }
 }

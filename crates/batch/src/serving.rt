@@ -45,6 +45,7 @@ fn bare(code: u8, head: Head, moves: u32) -> Reply
 fn reset(
     first: &mut [u32; 131],
     last: &mut [u32; 131],
+    busy: &mut [u64; 3],
     keys: &mut [u64],
     values: &mut [u64],
     next: &mut [u32],
@@ -56,14 +57,16 @@ fn reset(
 ) -> Head
     requires { ⌜ length (now next) < 2 ^ 32 ⌝ }
     requires { ⌜ Pooled kind (now keys) (now values) (now next) (now back) ⌝ }
-    ensures { λ r. ⌜ world r (links (now (first .exit)) (now (last .exit)) (now (next .exit)) (now (back .exit))) (now (keys .exit)) (now (values .exit)) ≡ freshCore kind (length (now (next .entry))) topped top0 top1 ⌝ }
+    ensures { λ r. ⌜ world r (links (now (first .exit)) (now (last .exit)) (now (next .exit)) (now (back .exit)) (now (busy .exit))) (now (keys .exit)) (now (values .exit)) ≡ freshCore kind (length (now (next .entry))) topped top0 top1 ⌝ }
 {
     pool::lay_fresh(keys, values, next, back);
     let s = pool::fresh_state(kind, next.len() as u32, topped, top0, top1);
     let f = s.first;
     let l = s.last;
+    let b = s.busy;
     *first = f;
     *last = l;
+    *busy = b;
     s.head
 }
 
@@ -72,32 +75,44 @@ fn operate(
     head: Head,
     first: &mut [u32; 131],
     last: &mut [u32; 131],
+    busy: &mut [u64; 3],
     keys: &mut [u64],
     values: &mut [u64],
     next: &mut [u32],
     back: &mut [u32],
     r: Record,
 ) -> Reply
-    requires { ⌜ Ready head (links (now first) (now last) (now next) (now back)) (now keys) (now values) ⌝ }
-    ensures { λ s. ⌜ answered (s .code) (world (s .head) (links (now (first .exit)) (now (last .exit)) (now (next .exit)) (now (back .exit))) (now (keys .exit)) (now (values .exit))) (s .moves) (s .present) (s .key0) (s .key1) (s .value) (s .count) ≡ operatedCore (world head (links (now (first .entry)) (now (last .entry)) (now (next .entry)) (now (back .entry))) (now (keys .entry)) (now (values .entry))) r ⌝ }
+    requires { ⌜ Ready head (links (now first) (now last) (now next) (now back) (now busy)) (now keys) (now values) ⌝ }
+    ensures { λ s. ⌜ answered (s .code) (world (s .head) (links (now (first .exit)) (now (last .exit)) (now (next .exit)) (now (back .exit)) (now (busy .exit))) (now (keys .exit)) (now (values .exit))) (s .moves) (s .present) (s .key0) (s .key1) (s .value) (s .count) ≡ operatedCore (world head (links (now (first .entry)) (now (last .entry)) (now (next .entry)) (now (back .entry)) (now (busy .entry))) (now (keys .entry)) (now (values .entry))) r ⌝ }
 {
     let op = r.op;
     if op == 1 {
-        return push(head, first, last, keys, values, next, back, r);
+        return push(head, first, last, busy, keys, values, next, back, r);
     }
     if op == 2 {
-        return pop(head, first, last, keys, values, next, back);
+        return pop(head, first, last, busy, keys, values, next, back);
     }
     if op == 3 {
-        let m = engine::constrain(head, first, last, keys, next, back);
+        let m = engine::constrain(head, first, last, busy, keys, next, back);
         let topped = m.head;
         return bare(0, topped, m.moves);
     }
     if op == 4 {
-        return clear(head, first, last, keys, values, next, back);
+        return clear(head, first, last, busy, keys, values, next, back);
     }
     if op == 5 {
-        return clear_to(head, first, last, keys, values, next, back, r.key0, r.key1);
+        return clear_to(
+            head,
+            first,
+            last,
+            busy,
+            keys,
+            values,
+            next,
+            back,
+            r.key0,
+            r.key1,
+        );
     }
     read_only(head, op)
 }
@@ -107,19 +122,21 @@ fn push(
     head: Head,
     first: &mut [u32; 131],
     last: &mut [u32; 131],
+    busy: &mut [u64; 3],
     keys: &mut [u64],
     values: &mut [u64],
     next: &mut [u32],
     back: &mut [u32],
     r: Record,
 ) -> Reply
-    requires { ⌜ Ready head (links (now first) (now last) (now next) (now back)) (now keys) (now values) ⌝ }
-    ensures { λ s. ⌜ answered (s .code) (world (s .head) (links (now (first .exit)) (now (last .exit)) (now (next .exit)) (now (back .exit))) (now (keys .exit)) (now (values .exit))) (s .moves) (s .present) (s .key0) (s .key1) (s .value) (s .count) ≡ pushCore (world head (links (now (first .entry)) (now (last .entry)) (now (next .entry)) (now (back .entry))) (now (keys .entry)) (now (values .entry))) (r .key0) (r .key1) (r .value) ⌝ }
+    requires { ⌜ Ready head (links (now first) (now last) (now next) (now back) (now busy)) (now keys) (now values) ⌝ }
+    ensures { λ s. ⌜ answered (s .code) (world (s .head) (links (now (first .exit)) (now (last .exit)) (now (next .exit)) (now (back .exit)) (now (busy .exit))) (now (keys .exit)) (now (values .exit))) (s .moves) (s .present) (s .key0) (s .key1) (s .value) (s .count) ≡ pushCore (world head (links (now (first .entry)) (now (last .entry)) (now (next .entry)) (now (back .entry)) (now (busy .entry))) (now (keys .entry)) (now (values .entry))) (r .key0) (r .key1) (r .value) ⌝ }
 {
     let e = engine::push(
         head,
         first,
         last,
+        busy,
         keys,
         values,
         next,
@@ -136,15 +153,16 @@ fn pop(
     head: Head,
     first: &mut [u32; 131],
     last: &mut [u32; 131],
+    busy: &mut [u64; 3],
     keys: &mut [u64],
     values: &mut [u64],
     next: &mut [u32],
     back: &mut [u32],
 ) -> Reply
-    requires { ⌜ Ready head (links (now first) (now last) (now next) (now back)) (now keys) (now values) ⌝ }
-    ensures { λ s. ⌜ answered (s .code) (world (s .head) (links (now (first .exit)) (now (last .exit)) (now (next .exit)) (now (back .exit))) (now (keys .exit)) (now (values .exit))) (s .moves) (s .present) (s .key0) (s .key1) (s .value) (s .count) ≡ popCore (world head (links (now (first .entry)) (now (last .entry)) (now (next .entry)) (now (back .entry))) (now (keys .entry)) (now (values .entry))) ⌝ }
+    requires { ⌜ Ready head (links (now first) (now last) (now next) (now back) (now busy)) (now keys) (now values) ⌝ }
+    ensures { λ s. ⌜ answered (s .code) (world (s .head) (links (now (first .exit)) (now (last .exit)) (now (next .exit)) (now (back .exit)) (now (busy .exit))) (now (keys .exit)) (now (values .exit))) (s .moves) (s .present) (s .key0) (s .key1) (s .value) (s .count) ≡ popCore (world head (links (now (first .entry)) (now (last .entry)) (now (next .entry)) (now (back .entry)) (now (busy .entry))) (now (keys .entry)) (now (values .entry))) ⌝ }
 {
-    let t = engine::pop(head, first, last, keys, values, next, back);
+    let t = engine::pop(head, first, last, busy, keys, values, next, back);
     let left = t.head;
     Reply {
         code: t.code,
@@ -162,17 +180,19 @@ fn clear(
     head: Head,
     first: &mut [u32; 131],
     last: &mut [u32; 131],
+    busy: &mut [u64; 3],
     keys: &mut [u64],
     values: &mut [u64],
     next: &mut [u32],
     back: &mut [u32],
 ) -> Reply
-    requires { ⌜ Ready head (links (now first) (now last) (now next) (now back)) (now keys) (now values) ⌝ }
-    ensures { λ s. ⌜ answered (s .code) (world (s .head) (links (now (first .exit)) (now (last .exit)) (now (next .exit)) (now (back .exit))) (now (keys .exit)) (now (values .exit))) (s .moves) (s .present) (s .key0) (s .key1) (s .value) (s .count) ≡ clearCore (world head (links (now (first .entry)) (now (last .entry)) (now (next .entry)) (now (back .entry))) (now (keys .entry)) (now (values .entry))) ⌝ }
+    requires { ⌜ Ready head (links (now first) (now last) (now next) (now back) (now busy)) (now keys) (now values) ⌝ }
+    ensures { λ s. ⌜ answered (s .code) (world (s .head) (links (now (first .exit)) (now (last .exit)) (now (next .exit)) (now (back .exit)) (now (busy .exit))) (now (keys .exit)) (now (values .exit))) (s .moves) (s .present) (s .key0) (s .key1) (s .value) (s .count) ≡ clearCore (world head (links (now (first .entry)) (now (last .entry)) (now (next .entry)) (now (back .entry)) (now (busy .entry))) (now (keys .entry)) (now (values .entry))) ⌝ }
 {
     let fresh = reset(
         first,
         last,
+        busy,
         keys,
         values,
         next,
@@ -189,6 +209,7 @@ fn clear_to(
     head: Head,
     first: &mut [u32; 131],
     last: &mut [u32; 131],
+    busy: &mut [u64; 3],
     keys: &mut [u64],
     values: &mut [u64],
     next: &mut [u32],
@@ -196,8 +217,8 @@ fn clear_to(
     key0: u64,
     key1: u64,
 ) -> Reply
-    requires { ⌜ Ready head (links (now first) (now last) (now next) (now back)) (now keys) (now values) ⌝ }
-    ensures { λ s. ⌜ answered (s .code) (world (s .head) (links (now (first .exit)) (now (last .exit)) (now (next .exit)) (now (back .exit))) (now (keys .exit)) (now (values .exit))) (s .moves) (s .present) (s .key0) (s .key1) (s .value) (s .count) ≡ clearToCore (world head (links (now (first .entry)) (now (last .entry)) (now (next .entry)) (now (back .entry))) (now (keys .entry)) (now (values .entry))) key0 key1 ⌝ }
+    requires { ⌜ Ready head (links (now first) (now last) (now next) (now back) (now busy)) (now keys) (now values) ⌝ }
+    ensures { λ s. ⌜ answered (s .code) (world (s .head) (links (now (first .exit)) (now (last .exit)) (now (next .exit)) (now (back .exit)) (now (busy .exit))) (now (keys .exit)) (now (values .exit))) (s .moves) (s .present) (s .key0) (s .key1) (s .value) (s .count) ≡ clearToCore (world head (links (now (first .entry)) (now (last .entry)) (now (next .entry)) (now (back .entry)) (now (busy .entry))) (now (keys .entry)) (now (values .entry))) key0 key1 ⌝ }
 {
     if !keys::well_formed(head.kind, key1) {
         return bare(pool::MALFORMED, head, 0);
@@ -205,6 +226,7 @@ fn clear_to(
     let fresh = reset(
         first,
         last,
+        busy,
         keys,
         values,
         next,
@@ -249,17 +271,18 @@ pub fn serve(
     head: Head,
     first: &mut [u32; 131],
     last: &mut [u32; 131],
+    busy: &mut [u64; 3],
     keys: &mut [u64],
     values: &mut [u64],
     next: &mut [u32],
     back: &mut [u32],
     r: Record,
 ) -> Reply
-    requires { ⌜ Ready head (links (now first) (now last) (now next) (now back)) (now keys) (now values) ⌝ }
-    ensures { λ s. ⌜ answered (s .code) (world (s .head) (links (now (first .exit)) (now (last .exit)) (now (next .exit)) (now (back .exit))) (now (keys .exit)) (now (values .exit))) (s .moves) (s .present) (s .key0) (s .key1) (s .value) (s .count) ≡ servedCore (world head (links (now (first .entry)) (now (last .entry)) (now (next .entry)) (now (back .entry))) (now (keys .entry)) (now (values .entry))) r ⌝ }
+    requires { ⌜ Ready head (links (now first) (now last) (now next) (now back) (now busy)) (now keys) (now values) ⌝ }
+    ensures { λ s. ⌜ answered (s .code) (world (s .head) (links (now (first .exit)) (now (last .exit)) (now (next .exit)) (now (back .exit)) (now (busy .exit))) (now (keys .exit)) (now (values .exit))) (s .moves) (s .present) (s .key0) (s .key1) (s .value) (s .count) ≡ servedCore (world head (links (now (first .entry)) (now (last .entry)) (now (next .entry)) (now (back .entry)) (now (busy .entry))) (now (keys .entry)) (now (values .entry))) r ⌝ }
 {
     if is_formed(head.kind, r) {
-        return operate(head, first, last, keys, values, next, back, r);
+        return operate(head, first, last, busy, keys, values, next, back, r);
     }
     bare(pool::MALFORMED, head, 0)
 }

@@ -47,6 +47,7 @@ fn shared(kind: u32) {
     s.values = [0; 5];
     s.first[0] = 5;
     s.last[0] = 5;
+    s.busy = [1, 0, 0];
     s.first[FREE] = 1;
     s.last[FREE] = 5;
     s.next = [2, 3, 4, 5, 0];
@@ -84,6 +85,7 @@ pub fn no_top(kind: u32) {
     s.last[0] = 3;
     s.first[WAITING] = 0;
     s.last[WAITING] = 0;
+    s.busy = [1, 0, 0];
     show(b"no top, a bucket that is not empty", s);
     let mut s = waiting(kind);
     s.head.top0 = 1;
@@ -108,6 +110,7 @@ fn moved_to(kind: u32, chain: usize) -> Sample
     s.last[b] = 0;
     s.first[chain] = 3;
     s.last[chain] = 3;
+    s.busy = if chain == 6 { [65, 0, 0] } else { [1, 0, 0] };
     s
 }
 
@@ -179,6 +182,7 @@ pub fn too_many_slots() {
         head,
         first: [0; 131],
         last: [0; 131],
+        busy: [0; 3],
     };
     let words = [0; 4097];
     let links = [0; 4097];

@@ -8,6 +8,7 @@ pub struct Sample {
     pub head: Head,
     pub first: [u32; 131],
     pub last: [u32; 131],
+    pub busy: [u64; 3],
     pub keys: [u64; 10],
     pub values: [u64; 5],
     pub next: [u32; 5],
@@ -40,6 +41,15 @@ pub fn bucket(kind: u32) -> usize
     }
 }
 
+// The busy words with entries in bucket 0 and in that bucket.
+pub fn busy(kind: u32) -> [u64; 3] {
+    match kind {
+        3 => [9, 0, 0],
+        4 => [1, 16, 0],
+        _ => [17, 0, 0],
+    }
+}
+
 pub fn top1(kind: u32) -> u64 {
     if kind == 4 { 5 } else { 0 }
 }
@@ -65,6 +75,7 @@ pub fn with_top(kind: u32) -> Sample {
         },
         first,
         last,
+        busy: busy(kind),
         keys: keys(kind),
         values: [11, 12, 13, 0, 0],
         next: [2, 0, 0, 5, 0],
@@ -90,6 +101,7 @@ pub fn waiting(kind: u32) -> Sample {
         },
         first,
         last,
+        busy: [0; 3],
         keys: keys(kind),
         values: [11, 12, 13, 0, 0],
         next: [2, 3, 0, 5, 0],
@@ -102,12 +114,18 @@ pub fn examine(s: Sample, k: usize, v: usize, n: usize, b: usize) -> u8 {
     let head = s.head;
     let first = s.first;
     let last = s.last;
+    let busy = s.busy;
     let keys = s.keys;
     let values = s.values;
     let next = s.next;
     let back = s.back;
     part(
-        State { head, first, last },
+        State {
+            head,
+            first,
+            last,
+            busy,
+        },
         &keys,
         &values,
         &next,

@@ -43,10 +43,12 @@ fn push_one(
     let state = r.state;
     let mut first = state.first;
     let mut last = state.last;
+    let mut busy = state.busy;
     let p = engine::push(
         state.head,
         &mut first,
         &mut last,
+        &mut busy,
         keys,
         values,
         next,
@@ -58,7 +60,12 @@ fn push_one(
     let head = p.head;
     Extended {
         code: 0,
-        state: State { head, first, last },
+        state: State {
+            head,
+            first,
+            last,
+            busy,
+        },
         place: r.place,
     }
 }

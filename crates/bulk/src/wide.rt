@@ -51,6 +51,7 @@ fn push_wide(
     head: Head,
     first: &mut [u32; 131],
     last: &mut [u32; 131],
+    busy: &mut [u64; 3],
     keys: &mut [u64],
     values: &mut [u64],
     next: &mut [u32],
@@ -59,8 +60,8 @@ fn push_wide(
     keys1: &[u64],
     entries: &[u64],
 ) -> Head
-    requires { ⌜ Whole (world head (links (now first) (now last) (now next) (now back)) (now keys) (now values)) ⌝ }
-    ensures { λ r. ⌜ world r (links (now (first .exit)) (now (last .exit)) (now (next .exit)) (now (back .exit))) (now (keys .exit)) (now (values .exit)) ≡ pushAll (world head (links (now (first .entry)) (now (last .entry)) (now (next .entry)) (now (back .entry))) (now (keys .entry)) (now (values .entry))) (zipped (now (keys0 .entry)) (now (keys1 .entry)) (now (entries .entry))) ⌝ }
+    requires { ⌜ Whole (world head (links (now first) (now last) (now next) (now back) (now busy)) (now keys) (now values)) ⌝ }
+    ensures { λ r. ⌜ world r (links (now (first .exit)) (now (last .exit)) (now (next .exit)) (now (back .exit)) (now (busy .exit))) (now (keys .exit)) (now (values .exit)) ≡ pushAll (world head (links (now (first .entry)) (now (last .entry)) (now (next .entry)) (now (back .entry)) (now (busy .entry))) (now (keys .entry)) (now (values .entry))) (zipped (now (keys0 .entry)) (now (keys1 .entry)) (now (entries .entry))) ⌝ }
 {
     let n = count(keys0, keys1, entries);
     let mut grown = head;
@@ -70,6 +71,7 @@ fn push_wide(
             grown,
             first,
             last,
+            busy,
             keys,
             values,
             next,
@@ -100,10 +102,12 @@ fn push_all(
 {
     let mut first = state.first;
     let mut last = state.last;
+    let mut busy = state.busy;
     let head = push_wide(
         state.head,
         &mut first,
         &mut last,
+        &mut busy,
         keys,
         values,
         next,
@@ -114,7 +118,12 @@ fn push_all(
     );
     Extended {
         code: 0,
-        state: State { head, first, last },
+        state: State {
+            head,
+            first,
+            last,
+            busy,
+        },
         place: 0,
     }
 }

@@ -19,21 +19,33 @@ fn drain(
     head: Head,
     first: &mut [u32; 131],
     last: &mut [u32; 131],
+    busy: &mut [u64; 3],
     keys: &[u64],
     next: &mut [u32],
     back: &mut [u32],
     chain: usize,
 ) -> Shifted
-    requires { ⌜ Fine (links (now first) (now last) (now next) (now back)) ⌝ }
+    requires { ⌜ Fine (links (now first) (now last) (now next) (now back) (now busy)) ⌝ }
     requires { ⌜ Room (head .kind) (length (now next)) (now keys) ⌝ }
     requires { ⌜ chain < 131 ⌝ }
     requires { ⌜ 0 < getD (now first) chain 0 ⌝ }
-    ensures { λ r. ⌜ shifted (r .head) (links (now (first .exit)) (now (last .exit)) (now (next .exit)) (now (back .exit))) (r .moves) ≡ drainUnless false head (links (now (first .entry)) (now (last .entry)) (now (next .entry)) (now (back .entry))) (now (keys .entry)) chain ⌝ }
+    ensures { λ r. ⌜ shifted (r .head) (links (now (first .exit)) (now (last .exit)) (now (next .exit)) (now (back .exit)) (now (busy .exit))) (r .moves) ≡ drainUnless false head (links (now (first .entry)) (now (last .entry)) (now (next .entry)) (now (back .entry)) (now (busy .entry))) (now (keys .entry)) chain ⌝ }
 {
     let g = pool::greatest(head.kind, keys, next, first[chain]) as usize - 1;
     let top0 = pool::key0(head.kind, keys, g);
     let top1 = pool::key1(head.kind, keys, g);
-    let moves = pool::spread(first, last, keys, next, back, head.kind, chain, top0, top1);
+    let moves = pool::spread(
+        first,
+        last,
+        busy,
+        keys,
+        next,
+        back,
+        head.kind,
+        chain,
+        top0,
+        top1,
+    );
     let topped = Head {
         kind: head.kind,
         len: head.len,
@@ -51,13 +63,14 @@ pub fn constrain(
     head: Head,
     first: &mut [u32; 131],
     last: &mut [u32; 131],
+    busy: &mut [u64; 3],
     keys: &[u64],
     next: &mut [u32],
     back: &mut [u32],
 ) -> Shifted
-    requires { ⌜ Fine (links (now first) (now last) (now next) (now back)) ⌝ }
+    requires { ⌜ Fine (links (now first) (now last) (now next) (now back) (now busy)) ⌝ }
     requires { ⌜ Room (head .kind) (length (now next)) (now keys) ⌝ }
-    ensures { λ r. ⌜ shifted (r .head) (links (now (first .exit)) (now (last .exit)) (now (next .exit)) (now (back .exit))) (r .moves) ≡ constrainCore head (links (now (first .entry)) (now (last .entry)) (now (next .entry)) (now (back .entry))) (now (keys .entry)) ⌝ }
+    ensures { λ r. ⌜ shifted (r .head) (links (now (first .exit)) (now (last .exit)) (now (next .exit)) (now (back .exit)) (now (busy .exit))) (r .moves) ≡ constrainCore head (links (now (first .entry)) (now (last .entry)) (now (next .entry)) (now (back .entry)) (now (busy .entry))) (now (keys .entry)) ⌝ }
 {
     if head.topped {
         let b = pool::busy(first);
@@ -67,7 +80,7 @@ pub fn constrain(
         if b == pool::WAITING {
             return Shifted { head, moves: 0 };
         }
-        let d = drain(head, first, last, keys, next, back, b);
+        let d = drain(head, first, last, busy, keys, next, back, b);
         let drained = d.head;
         return Shifted {
             head: drained.anew(),
@@ -77,7 +90,7 @@ pub fn constrain(
     if first[pool::WAITING] == 0 {
         return Shifted { head, moves: 0 };
     }
-    let d = drain(head, first, last, keys, next, back, pool::WAITING);
+    let d = drain(head, first, last, busy, keys, next, back, pool::WAITING);
     let drained = d.head;
     Shifted {
         head: drained.anew(),

@@ -26,16 +26,17 @@ fn ready(
     head: Head,
     first: &mut [u32; 131],
     last: &mut [u32; 131],
+    busy: &mut [u64; 3],
     keys: &[u64],
     next: &mut [u32],
     back: &mut [u32],
 ) -> Shifted
-    requires { ⌜ Fine (links (now first) (now last) (now next) (now back)) ⌝ }
+    requires { ⌜ Fine (links (now first) (now last) (now next) (now back) (now busy)) ⌝ }
     requires { ⌜ Room (head .kind) (length (now next)) (now keys) ⌝ }
-    ensures { λ r. ⌜ shifted (r .head) (links (now (first .exit)) (now (last .exit)) (now (next .exit)) (now (back .exit))) (r .moves) ≡ readied (eqb (getD (now (last .entry)) 0 0) 0) head (links (now (first .entry)) (now (last .entry)) (now (next .entry)) (now (back .entry))) (now (keys .entry)) ⌝ }
+    ensures { λ r. ⌜ shifted (r .head) (links (now (first .exit)) (now (last .exit)) (now (next .exit)) (now (back .exit)) (now (busy .exit))) (r .moves) ≡ readied (eqb (getD (now (last .entry)) 0 0) 0) head (links (now (first .entry)) (now (last .entry)) (now (next .entry)) (now (back .entry)) (now (busy .entry))) (now (keys .entry)) ⌝ }
 {
     if last[0] == 0 {
-        return constrain(head, first, last, keys, next, back);
+        return constrain(head, first, last, busy, keys, next, back);
     }
     Shifted { head, moves: 0 }
 }
@@ -46,17 +47,18 @@ fn take_tail(
     moves: u32,
     first: &mut [u32; 131],
     last: &mut [u32; 131],
+    busy: &mut [u64; 3],
     keys: &mut [u64],
     values: &mut [u64],
     next: &mut [u32],
     back: &mut [u32],
 ) -> Taken
-    requires { ⌜ Ready head (links (now first) (now last) (now next) (now back)) (now keys) (now values) ⌝ }
+    requires { ⌜ Ready head (links (now first) (now last) (now next) (now back) (now busy)) (now keys) (now values) ⌝ }
     requires { ⌜ (0 < getD (now last) 0 0) × (0 < head .len) ⌝ }
     ensures code { λ r. ⌜ r .code ≡ 0 ⌝ }
-    ensures gives { λ r. ⌜ popped (world (r .head) (links (now (first .exit)) (now (last .exit)) (now (next .exit)) (now (back .exit))) (now (keys .exit)) (now (values .exit))) (r .moves) (r .key0) (r .key1) (r .value) ≡ popTail (shifted head (links (now (first .entry)) (now (last .entry)) (now (next .entry)) (now (back .entry))) moves) (now (keys .entry)) (now (values .entry)) ⌝ }
+    ensures gives { λ r. ⌜ popped (world (r .head) (links (now (first .exit)) (now (last .exit)) (now (next .exit)) (now (back .exit)) (now (busy .exit))) (now (keys .exit)) (now (values .exit))) (r .moves) (r .key0) (r .key1) (r .value) ≡ popTail (shifted head (links (now (first .entry)) (now (last .entry)) (now (next .entry)) (now (back .entry)) (now (busy .entry))) moves) (now (keys .entry)) (now (values .entry)) ⌝ }
 {
-    let slot = pool::unhook_tail(first, last, next, back);
+    let slot = pool::unhook_tail(first, last, busy, next, back);
     let i = slot as usize;
     let key0 = pool::key0(head.kind, keys, i);
     let key1 = pool::key1(head.kind, keys, i);
@@ -96,20 +98,21 @@ pub fn pop(
     head: Head,
     first: &mut [u32; 131],
     last: &mut [u32; 131],
+    busy: &mut [u64; 3],
     keys: &mut [u64],
     values: &mut [u64],
     next: &mut [u32],
     back: &mut [u32],
 ) -> Taken
-    requires { ⌜ Ready head (links (now first) (now last) (now next) (now back)) (now keys) (now values) ⌝ }
-    ensures { λ r. ⌜ answered (r .code) (world (r .head) (links (now (first .exit)) (now (last .exit)) (now (next .exit)) (now (back .exit))) (now (keys .exit)) (now (values .exit))) (r .moves) (eqb (r .code) 0) (r .key0) (r .key1) (r .value) 0 ≡ popCore (world head (links (now (first .entry)) (now (last .entry)) (now (next .entry)) (now (back .entry))) (now (keys .entry)) (now (values .entry))) ⌝ }
+    requires { ⌜ Ready head (links (now first) (now last) (now next) (now back) (now busy)) (now keys) (now values) ⌝ }
+    ensures { λ r. ⌜ answered (r .code) (world (r .head) (links (now (first .exit)) (now (last .exit)) (now (next .exit)) (now (back .exit)) (now (busy .exit))) (now (keys .exit)) (now (values .exit))) (r .moves) (eqb (r .code) 0) (r .key0) (r .key1) (r .value) 0 ≡ popCore (world head (links (now (first .entry)) (now (last .entry)) (now (next .entry)) (now (back .entry)) (now (busy .entry))) (now (keys .entry)) (now (values .entry))) ⌝ }
 {
     if head.len == 0 {
         return nothing(head);
     }
-    let m = ready(head, first, last, keys, next, back);
+    let m = ready(head, first, last, busy, keys, next, back);
     if last[0] == 0 {
         return nothing(m.head);
     }
-    take_tail(m.head, m.moves, first, last, keys, values, next, back)
+    take_tail(m.head, m.moves, first, last, busy, keys, values, next, back)
 }

@@ -45,6 +45,7 @@ pub fn push(
     head: Head,
     first: &mut [u32; 131],
     last: &mut [u32; 131],
+    busy: &mut [u64; 3],
     keys: &mut [u64],
     values: &mut [u64],
     next: &mut [u32],
@@ -53,8 +54,8 @@ pub fn push(
     key1: u64,
     value: u64,
 ) -> Entered
-    requires { ⌜ Ready head (links (now first) (now last) (now next) (now back)) (now keys) (now values) ⌝ }
-    ensures { λ r. ⌜ answered (r .code) (world (r .head) (links (now (first .exit)) (now (last .exit)) (now (next .exit)) (now (back .exit))) (now (keys .exit)) (now (values .exit))) 0 false 0 0 0 0 ≡ pushCore (world head (links (now (first .entry)) (now (last .entry)) (now (next .entry)) (now (back .entry))) (now (keys .entry)) (now (values .entry))) key0 key1 value ⌝ }
+    requires { ⌜ Ready head (links (now first) (now last) (now next) (now back) (now busy)) (now keys) (now values) ⌝ }
+    ensures { λ r. ⌜ answered (r .code) (world (r .head) (links (now (first .exit)) (now (last .exit)) (now (next .exit)) (now (back .exit)) (now (busy .exit))) (now (keys .exit)) (now (values .exit))) 0 false 0 0 0 0 ≡ pushCore (world head (links (now (first .entry)) (now (last .entry)) (now (next .entry)) (now (back .entry)) (now (busy .entry))) (now (keys .entry)) (now (values .entry))) key0 key1 value ⌝ }
 {
     let code = push_code(head, first[pool::FREE], key0, key1);
     if code != 0 {
@@ -64,7 +65,7 @@ pub fn push(
     let i = slot as usize;
     pool::store_key(head.kind, keys, i, key0, key1);
     values[i] = value;
-    pool::append(first, last, next, back, place(head, key0, key1), slot);
+    pool::append(first, last, busy, next, back, place(head, key0, key1), slot);
     let grown = Head {
         kind: head.kind,
         len: head.len + 1,

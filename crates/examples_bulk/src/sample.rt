@@ -66,6 +66,10 @@ fn same_ends(a: [u32; 131], b: [u32; 131]) -> bool {
     same_links(&a, &b)
 }
 
+fn same_busy(a: [u64; 3], b: [u64; 3]) -> bool {
+    same_words(&a, &b)
+}
+
 fn same_state(a: State, b: State) -> bool {
     if !same_head(a.head, b.head) {
         return false;
@@ -74,6 +78,11 @@ fn same_state(a: State, b: State) -> bool {
     let last = a.last;
     let other_first = b.first;
     let other_last = b.last;
+    let busy = a.busy;
+    let other_busy = b.busy;
+    if !same_busy(busy, other_busy) {
+        return false;
+    }
     same_ends(first, other_first) && same_ends(last, other_last)
 }
 

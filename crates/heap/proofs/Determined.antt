@@ -31,7 +31,7 @@ over s p = worldOf s (p .keys) (p .values) (p .next) (p .back)
 
 -- a world tells its state and its pool
 abbrev pub stateIn : World → State
-stateIn w = record { head = w .head; first = w .links .first; last = w .links .last }
+stateIn w = record { head = w .head; first = w .links .first; last = w .links .last; busy = w .links .busy }
 
 abbrev pub poolIn : World → Pool
 poolIn w = record { keys = w .keys; values = w .values; next = w .links .next; back = w .links .back }

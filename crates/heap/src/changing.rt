@@ -32,10 +32,12 @@ pub fn push(
     }
     let mut first = state.first;
     let mut last = state.last;
+    let mut busy = state.busy;
     let r = engine::push(
         state.head,
         &mut first,
         &mut last,
+        &mut busy,
         keys,
         values,
         next,
@@ -47,7 +49,12 @@ pub fn push(
     let head = r.head;
     Answer {
         code: r.code,
-        state: State { head, first, last },
+        state: State {
+            head,
+            first,
+            last,
+            busy,
+        },
     }
 }
 
@@ -72,12 +79,27 @@ pub fn pop(
     }
     let mut first = state.first;
     let mut last = state.last;
-    let r = engine::pop(state.head, &mut first, &mut last, keys, values, next, back);
+    let mut busy = state.busy;
+    let r = engine::pop(
+        state.head,
+        &mut first,
+        &mut last,
+        &mut busy,
+        keys,
+        values,
+        next,
+        back,
+    );
     let head = r.head;
     let given = given_if(r.code == 0, r.key0, r.key1, r.value);
     Popped {
         code: r.code,
-        state: State { head, first, last },
+        state: State {
+            head,
+            first,
+            last,
+            busy,
+        },
         moves: r.moves,
         given,
     }
@@ -103,11 +125,25 @@ pub fn constrain(
     }
     let mut first = state.first;
     let mut last = state.last;
-    let r = engine::constrain(state.head, &mut first, &mut last, keys, next, back);
+    let mut busy = state.busy;
+    let r = engine::constrain(
+        state.head,
+        &mut first,
+        &mut last,
+        &mut busy,
+        keys,
+        next,
+        back,
+    );
     let head = r.head;
     Moves {
         code: 0,
-        state: State { head, first, last },
+        state: State {
+            head,
+            first,
+            last,
+            busy,
+        },
         moves: r.moves,
     }
 }

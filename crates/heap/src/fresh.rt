@@ -23,6 +23,7 @@ fn no_state() -> State
         head,
         first: [0; 131],
         last: [0; 131],
+        busy: [0; 3],
     }
 }
 

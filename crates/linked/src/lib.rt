@@ -1,8 +1,9 @@
 // The calls for a C or a Rust program that links this library: a fresh heap, a batch, the examination.
 //
 // The state is handed over in parts, each behind a pointer: kind, length, whether there is a top, its
-// two words, and the first and last links of the 131 chains. A slice is a pointer and a number of
-// elements. No function has a `requires`; that the pointers are good is the caller's to see to.
+// two words, the first and last links of the 131 chains, and the three busy words. A slice is a pointer
+// and a number of elements. No function has a `requires`; that the pointers are good is the caller's to
+// see to.
 use pool::Head;
 use pool::State;
 ghost use mathlib.Core.Path.{_≡_};
@@ -25,12 +26,13 @@ pub extern "C" fn gaissomet_new(
     top1: &mut u64,
     first: &mut [u32; 131],
     last: &mut [u32; 131],
+    busy: &mut [u64; 3],
     keys: &mut [u64],
     values: &mut [u64],
     next: &mut [u32],
     back: &mut [u32],
 ) -> u8
-    ensures { λ r. ⌜ answered r (world (headOf (now (kind .exit)) (now (len .exit)) (now (topped .exit)) (now (top0 .exit)) (now (top1 .exit))) (links (now (first .exit)) (now (last .exit)) (now (next .exit)) (now (back .exit))) (now (keys .exit)) (now (values .exit))) 0 false 0 0 0 0 ≡ made wanted (now (keys .entry)) (now (values .entry)) (now (next .entry)) (now (back .entry)) ⌝ }
+    ensures { λ r. ⌜ answered r (world (headOf (now (kind .exit)) (now (len .exit)) (now (topped .exit)) (now (top0 .exit)) (now (top1 .exit))) (links (now (first .exit)) (now (last .exit)) (now (next .exit)) (now (back .exit)) (now (busy .exit))) (now (keys .exit)) (now (values .exit))) 0 false 0 0 0 0 ≡ made wanted (now (keys .entry)) (now (values .entry)) (now (next .entry)) (now (back .entry)) ⌝ }
 {
     let h = heap::new(wanted, keys, values, next, back);
     let s = h.state;
@@ -42,8 +44,10 @@ pub extern "C" fn gaissomet_new(
     *top1 = head.top1;
     let f = s.first;
     let l = s.last;
+    let w = s.busy;
     *first = f;
     *last = l;
+    *busy = w;
     h.code
 }
 
@@ -57,6 +61,7 @@ pub extern "C" fn gaissomet_batch(
     top1: &mut u64,
     first: &mut [u32; 131],
     last: &mut [u32; 131],
+    busy: &mut [u64; 3],
     keys: &mut [u64],
     values: &mut [u64],
     next: &mut [u32],
@@ -65,9 +70,9 @@ pub extern "C" fn gaissomet_batch(
     answers: &mut [u8],
     count: &mut usize,
 ) -> u8
-    ensures { λ r. ⌜ batched r (world (headOf (now (kind .exit)) (now (len .exit)) (now (topped .exit)) (now (top0 .exit)) (now (top1 .exit))) (links (now (first .exit)) (now (last .exit)) (now (next .exit)) (now (back .exit))) (now (keys .exit)) (now (values .exit))) (now (answers .exit)) (now (count .exit)) ≡ batch (world (headOf (now (kind .entry)) (now (len .entry)) (now (topped .entry)) (now (top0 .entry)) (now (top1 .entry))) (links (now (first .entry)) (now (last .entry)) (now (next .entry)) (now (back .entry))) (now (keys .entry)) (now (values .entry))) (now (records .entry)) (now (answers .entry)) ⌝ }
+    ensures { λ r. ⌜ batched r (world (headOf (now (kind .exit)) (now (len .exit)) (now (topped .exit)) (now (top0 .exit)) (now (top1 .exit))) (links (now (first .exit)) (now (last .exit)) (now (next .exit)) (now (back .exit)) (now (busy .exit))) (now (keys .exit)) (now (values .exit))) (now (answers .exit)) (now (count .exit)) ≡ batch (world (headOf (now (kind .entry)) (now (len .entry)) (now (topped .entry)) (now (top0 .entry)) (now (top1 .entry))) (links (now (first .entry)) (now (last .entry)) (now (next .entry)) (now (back .entry)) (now (busy .entry))) (now (keys .entry)) (now (values .entry))) (now (records .entry)) (now (answers .entry)) ⌝ }
 {
-    let state = whole(*kind, *len, *topped, *top0, *top1, *first, *last);
+    let state = whole(*kind, *len, *topped, *top0, *top1, *first, *last, *busy);
     let b = batch::run(state, keys, values, next, back, records, answers);
     let s = b.state;
     let head = s.head;
@@ -78,8 +83,10 @@ pub extern "C" fn gaissomet_batch(
     *top1 = head.top1;
     let f = s.first;
     let l = s.last;
+    let w = s.busy;
     *first = f;
     *last = l;
+    *busy = w;
     *count = b.count;
     b.code
 }
@@ -94,14 +101,15 @@ pub extern "C" fn gaissomet_examine(
     top1: u64,
     first: &[u32; 131],
     last: &[u32; 131],
+    busy: &[u64; 3],
     keys: &[u64],
     values: &[u64],
     next: &[u32],
     back: &[u32],
 ) -> u8
-    ensures { λ r. ⌜ r ≡ examined (world (headOf kind len topped top0 top1) (links (now (first .entry)) (now (last .entry)) (now (next .entry)) (now (back .entry))) (now (keys .entry)) (now (values .entry))) ⌝ }
+    ensures { λ r. ⌜ r ≡ examined (world (headOf kind len topped top0 top1) (links (now (first .entry)) (now (last .entry)) (now (next .entry)) (now (back .entry)) (now (busy .entry))) (now (keys .entry)) (now (values .entry))) ⌝ }
 {
-    let state = whole(kind, len, topped, top0, top1, *first, *last);
+    let state = whole(kind, len, topped, top0, top1, *first, *last, *busy);
     pool::examine(state, keys, values, next, back)
 }
 
@@ -114,8 +122,9 @@ fn whole(
     top1: u64,
     first: [u32; 131],
     last: [u32; 131],
+    busy: [u64; 3],
 ) -> State
-    ensures { λ r. ⌜ r ≡ record { head = headOf kind len topped top0 top1; first = first; last = last } ⌝ }
+    ensures { λ r. ⌜ r ≡ record { head = headOf kind len topped top0 top1; first = first; last = last; busy = busy } ⌝ }
 {
     let head = Head {
         kind,
@@ -124,5 +133,10 @@ fn whole(
         top0,
         top1,
     };
-    State { head, first, last }
+    State {
+        head,
+        first,
+        last,
+        busy,
+    }
 }

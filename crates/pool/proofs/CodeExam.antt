@@ -1,7 +1,8 @@
 -- The code of the examination against its definitions: laws on plain values, which the proofs of its functions apply.
-use mathlib.Core.Path.{_≡_, refl, sym, ap, _∙_}
+use mathlib.Core.Path.{_≡_, refl, sym, ap, ap₂, _∙_}
 use mathlib.Core.Bool.{Bool, true, false, _&&_, _||_, and-false, and-comm, or-true}
-use mathlib.Core.List.{List}
+use mathlib.Core.Logic.{_≢_, _⊎_, ⊎-elim}
+use mathlib.Core.List.{List, [], _∷_}
 use Prim.Native.Nat.{ℕ, zero, suc, _+_, _-_, _*_, _^_, _≤_, _<_, zero-le}
 use native.Mathlib.Nat.{le-refl, le-trans}
 use native.Mathlib.Omega.{arith}
@@ -9,14 +10,17 @@ use native.Mathlib.Numerals.{add-one, sub-one}
 use native.Mathlib.Decide.{ℕ-discrete}
 use borrow.Author.Tests.{eq-eqb, ne-eqb, le-leb, lt-leb, lt-ltb, le-ltb, ltb-true, ltb-false}
 use lib.Dec.{leb, ltb, eqb}
-use lib.ListN.{length, getD}
+use lib.ListN.{length, getD, take}
 use Rattle.rule.specs.Width.{distance}
 use Rattle.keys.specs.Ordered.{width, words}
 use Rattle.pool.specs.declared.state.Head.{Head}
 use Rattle.pool.specs.World.{waitingChain, freeChain, Links, World, size, firstOf, lastOf, keyWord0, keyWord1, slotKey, topOf, place, within}
 use Rattle.pool.specs.Sound.{limit}
-use Rattle.pool.specs.Examine.{fits, headed, standsAt, emptyAt, okBusy, okFree, gate, verify, apart, verifyBusy, scan, fitting, finish, examined}
-use Rattle.pool.proofs.Exam.{verify-sound, examined-code, code-unfit, code-unheaded, code-at}
+use Rattle.pool.specs.Marks.{summary, marked, sameWords}
+use Rattle.pool.specs.Examine.{fits, headed, standsAt, emptyAt, okBusy, okFree, gate, verify, apart, verifyBusy, scan, scanned, fitting, finish, examined}
+use Rattle.pool.proofs.Chains.{last-none}
+use Rattle.pool.proofs.Marks.{summary-none, seen-some, seen-none, seen-all}
+use Rattle.pool.proofs.Exam.{Walked, verify-sound, examined-code, code-unfit, code-unheaded, code-at}
 
 -- ---- tests
 
@@ -158,6 +162,29 @@ verify-le ok next end left p l = go (verify ok next end left p l) refl
     go zero e = zero-le
     go (suc r) e = let w = verify-sound ok next end left p l r e .2 in omega arith
 
+-- a walk that passes has a first link just if it has a last one
+module _ (ok : ℕ → ℕ → Bool) (next : List ℕ) (end left l : ℕ) (n : verify ok next end left 0 l ≢ 0) where
+  passes : (ss : List ℕ) × Walked ok next end 0 l ss
+  passes = go (verify ok next end left 0 l) refl
+    where
+      go : (v : ℕ) → verify ok next end left 0 l ≡ v → (ss : List ℕ) × Walked ok next end 0 l ss
+      go zero e = absurd (n e)
+      go (suc r) e = let s = verify-sound ok next end left 0 l r e in (s .0, s .1)
+
+  pub starts : end ≢ 0 → l ≢ 0
+  starts z e = z (go (passes .0) (passes .1))
+    where
+      go : (ss : List ℕ) → Walked ok next end 0 l ss → end ≡ 0
+      go [] w = sym (w .ends)
+      go (s ∷ ss) w = let f = w .linked .0 in absurd (omega arith)
+
+  pub starts-not : end ≡ 0 → l ≡ 0
+  starts-not e = go (passes .0) (passes .1)
+    where
+      go : (ss : List ℕ) → Walked ok next end 0 l ss → l ≡ 0
+      go [] w = w .linked
+      go (s ∷ ss) w = let z : suc (length ss) ≡ 0 = ap length (last-none (s ∷ ss) (w .ends ∙ e)) in absurd (omega arith)
+
 pub apart-none : (k : Links) (c : ℕ) → getD (k .last) c 0 ≡ 0 → apart k c ≡ true
 unfolding apart
 apart-none k c e = rw (eq-eqb (getD (k .last) c 0) 0 e)
@@ -198,13 +225,17 @@ module _ (h : Head) (k : Links) (keys : List ℕ) where
   scan-step m c zero l z = absurd (z refl)
   scan-step m c (suc left) l z = let e : m - c ≡ suc (m - (c + 1)) = omega arith in rw e (simp (add-one, sub-one))
 
--- what is left of a scan of m chains is the whole of it
-pub record Scan (h : Head) (k : Links) (keys : List ℕ) (m left c : ℕ) : Type 0 where
+-- what is left of a scan of m chains is the whole of it, and these are the busy words of the chains before
+pub record Scan (h : Head) (k : Links) (keys : List ℕ) (m left c : ℕ) (words : List ℕ) : Type 0 where
   pub few : left ≤ length (k .next) + 1
   pub past : c ≤ m
   pub same : scan h k keys m 0 (suc (length (k .next))) ≡ scan h k keys (m - c) c left
+  pub seen : left ≢ 0 → words ≡ summary (take c (k .first))
 
-module _ {h : Head} {k : Links} {keys : List ℕ} {m left c : ℕ} (t : Scan h k keys m left c) where
+pub seen-start : (first : List ℕ) → 0 ∷ 0 ∷ 0 ∷ [] ≡ summary (take 0 first)
+seen-start first = summary-none (take 0 first) (λ c l. refl)
+
+module _ {h : Head} {k : Links} {keys : List ℕ} {m left c : ℕ} {words : List ℕ} (t : Scan h k keys m left c words) where
   pub scan-over : m ≤ c → scan h k keys m 0 (suc (length (k .next))) ≡ left
   unfolding scan
   scan-over l = let e : m - c ≡ 0 = omega arith in t .same ∙ rw e
@@ -217,16 +248,44 @@ module _ {h : Head} {k : Links} {keys : List ℕ} {m left c : ℕ} (t : Scan h k
     unfolding verifyBusy
     scan-shared n e = t .same ∙ scan-step h k keys m c left l z ∙ scan-none h k keys (m - (c + 1)) (c + 1) (verifyBusy h k keys c (left - 1)) (rw (apart-shared k c n e))
 
-    pub scan-again : apart k c ≡ true → {r : ℕ} → r ≡ verify (okBusy h k keys c) (k .next) (getD (k .last) c 0) (left - 1) 0 (getD (k .first) c 0) → Scan h k keys m r (c + 1)
+    -- the chain's bit is set, if it has a last link
+    module _ {r : ℕ} (e : r ≡ verify (okBusy h k keys c) (k .next) (getD (k .last) c 0) (left - 1) 0 (getD (k .first) c 0)) where
+      seen-on : {words′ : List ℕ} → getD (k .last) c 0 ≢ 0 → words′ ≡ marked words c → r ≢ 0 → words′ ≡ summary (take (c + 1) (k .first))
+      seen-on n w p =
+          w ∙ ap (λ (x : List ℕ). marked x c) (t .seen z) ∙ seen-some (k .first) c (starts (okBusy h k keys c) (k .next) (getD (k .last) c 0) (left - 1) (getD (k .first) c 0) (λ q. p (e ∙ q)) n)
+
+      seen-off : getD (k .last) c 0 ≡ 0 → r ≢ 0 → words ≡ summary (take (c + 1) (k .first))
+      seen-off n p = t .seen z ∙ seen-none (k .first) c (starts-not (okBusy h k keys c) (k .next) (getD (k .last) c 0) (left - 1) (getD (k .first) c 0) (λ q. p (e ∙ q)) n)
+
+    pub scan-again : {words′ : List ℕ} → apart k c ≡ true → ((getD (k .last) c 0 ≢ 0) × (words′ ≡ marked words c)) ⊎ ((getD (k .last) c 0 ≡ 0) × (words′ ≡ words))
+        → {r : ℕ} → r ≡ verify (okBusy h k keys c) (k .next) (getD (k .last) c 0) (left - 1) 0 (getD (k .first) c 0) → Scan h k keys m r (c + 1) words′
     unfolding verifyBusy
-    scan-again a {r} e =
+    scan-again a g {r} e =
         let b : verifyBusy h k keys c (left - 1) ≡ r = rw a (sym e) in
         let i = busy-le h k keys c (left - 1) in
         record {
           few = omega arith;
           past = omega arith;
           same = t .same ∙ scan-step h k keys m c left l z ∙ ap (scan h k keys (m - (c + 1)) (c + 1)) b;
+          seen = ⊎-elim (λ n. seen-on e (n .0) (n .1)) (λ n p. n .1 ∙ seen-off e (n .0) p) g;
         }
+
+gate-none : (b : Bool) → gate b 0 ≡ 0
+gate-none true = refl
+gate-none false = refl
+
+module _ (h : Head) (k : Links) (keys : List ℕ) where
+  pub scanned-refused : scan h k keys freeChain 0 (suc (length (k .next))) ≡ 0 → scanned h k keys ≡ 0
+  unfolding scanned
+  scanned-refused e = ap (gate (sameWords (summary (k .first)) (k .busy))) e ∙ gate-none (sameWords (summary (k .first)) (k .busy))
+
+  -- at the end of the scan: its words are compared with those of the state
+  pub scanned-over : {left c : ℕ} {words : List ℕ} → Scan h k keys freeChain left c words → freeChain ≤ c → {b : Bool} → b ≡ sameWords words (k .busy) → scanned h k keys ≡ gate b left
+  unfolding scanned
+  scanned-over {left} {c} {words} t l {b} e = elim (ℕ-discrete left 0) [
+    | yes z ↦ scanned-refused (scan-over t l ∙ z) ∙ sym (ap (gate b) z ∙ gate-none b)
+    | no z ↦ ap₂ gate (ap (λ (x : List ℕ). sameWords x (k .busy)) (sym (t .seen z ∙ seen-all (k .first) c (omega arith))) ∙ sym e) (scan-over t l)
+  ]
 
 -- ---- the whole
 
@@ -241,11 +300,15 @@ module _ (w : World) where
   pub unheaded-code : fitting w ≡ true → headed (w .head) ≡ false → examined w ≡ 2
   unheaded-code f h = examined-code w ∙ code-unheaded _ _ _ f h
 
-  pub headed-code : fitting w ≡ true → headed (w .head) ≡ true → {v : ℕ} → v ≡ scan (w .head) (w .links) (w .keys) freeChain 0 (suc (size w)) → examined w ≡ finish w v
+  pub headed-code : fitting w ≡ true → headed (w .head) ≡ true → {v : ℕ} → v ≡ scanned (w .head) (w .links) (w .keys) → examined w ≡ finish w v
   headed-code f h e = examined-code w ∙ code-at _ _ _ f h ∙ ap (finish w) (sym e)
 
-  pub scan-few : {v : ℕ} → v ≡ scan (w .head) (w .links) (w .keys) freeChain 0 (suc (size w)) → v ≤ size w + 1
-  scan-few e = let i = scan-le (w .head) (w .links) (w .keys) freeChain 0 (suc (size w)) in omega arith
+  pub scan-few : {v : ℕ} → v ≡ scanned (w .head) (w .links) (w .keys) → v ≤ size w + 1
+  unfolding scanned
+  scan-few e =
+      let i = scan-le (w .head) (w .links) (w .keys) freeChain 0 (suc (size w)) in
+      let g = gate-le (sameWords (summary (w .links .first)) (w .links .busy)) (scan (w .head) (w .links) (w .keys) freeChain 0 (suc (size w))) in
+      omega arith
 
   pub finish-refused : (v : ℕ) → v ≡ 0 → finish w v ≡ 2
   unfolding finish

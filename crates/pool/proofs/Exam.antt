@@ -9,6 +9,7 @@ use native.Mathlib.Omega.{arith}
 use native.Mathlib.Decide.{ℕ-discrete, decLe, decLt}
 use lib.Dec.{T, leb, ltb, eqb, leb→le, le→leb, ltb→lt, lt→ltb, eqb→eq}
 use lib.ListN.{length, getD}
+use lib.Seq.{ext-getD}
 use Rattle.rule.specs.Width.{distance}
 use Rattle.rule.proofs.Width.{distance-le}
 use Rattle.pool.specs.Chain.{count, tally, total, tab, walk, Linked, Backed, lastFrom, On}
@@ -17,9 +18,11 @@ use Rattle.pool.proofs.Chains.{tally-tab-suc, total-tab-suc, sum-tally,
 use Rattle.pool.proofs.Chains.{count-join, length-join, tally-home, tab-find, tab-none, tab-ge, no-slots, last-none, walk-linked, linked-once, linked-last, last-on0}
 use Rattle.keys.specs.Ordered.{width, words}
 use Rattle.pool.specs.World.{waitingChain, freeChain, chainCount, World, keyAt, topKey, distanceAt, word0, word1, size, firstOf, lastOf, chain, chains, busyChains}
-use Rattle.pool.specs.Sound.{limit, Fit, Sound}
+use Rattle.pool.specs.Marks.{bitAt, flag, summary, sameWords}
+use Rattle.pool.specs.Sound.{limit, Typed, Fit, Sound}
 use Rattle.pool.specs.World.{place, within, home, under}
-use Rattle.pool.specs.Examine.{standsAt, emptyAt, okBusy, okFree, gate, verify, apart, verifyBusy, scan, fitting, headed, finish, examined}
+use Rattle.pool.specs.Examine.{standsAt, emptyAt, okBusy, okFree, gate, verify, apart, verifyBusy, scan, scanned, fitting, headed, finish, examined}
+use Rattle.pool.proofs.Marks.{flag-none, flag-some, summary-words, summary-bit, summary-rest, bits-summary}
 
 -- ---- tests
 
@@ -73,6 +76,28 @@ gate-open false n r e = absurd (omega arith)
 gate-same : (b : Bool) (n : ℕ) → b ≡ true → gate b n ≡ n
 gate-same true n e = refl
 gate-same false n e = absurd (false≢true e)
+
+-- the three words of two lists are the same
+module _ (a b : List ℕ) where
+  same-words : length a ≡ 3 → length b ≡ 3 → sameWords a b ≡ true → a ≡ b
+  unfolding sameWords
+  same-words p q e = ext-getD 0 a b (p ∙ sym q) at
+    where
+      each : (eqb (getD a 0 0) (getD b 0 0) ≡ true) × (eqb (getD a 1 0) (getD b 1 0) ≡ true) × (eqb (getD a 2 0) (getD b 2 0) ≡ true)
+      each = and3 _ _ _ e
+
+      at : (j : ℕ) → j < length a → getD a j 0 ≡ getD b j 0
+      at zero l = eqb-is _ _ (each .0)
+      at (suc zero) l = eqb-is _ _ (each .1)
+      at (suc (suc zero)) l = eqb-is _ _ (each .2)
+      at (suc (suc (suc j))) l = absurd (omega arith)
+
+  words-same : a ≡ b → sameWords a b ≡ true
+  unfolding sameWords
+  words-same e = and-both _ _ (and-both _ _ (at 0) (at 1)) (at 2)
+    where
+      at : (j : ℕ) → eqb (getD a j 0) (getD b j 0) ≡ true
+      at j = is-eqb _ _ (ap (λ (l : List ℕ). getD l j 0) e)
 
 -- ---- a walk
 
@@ -261,10 +286,47 @@ module _ (w : World) where
       let o = hit-same x in
       (step-free p x (h x (omega arith)), blank-along (suc x) ss (λ s k. h s (omega arith)))
 
+-- ---- the busy words
+
+module _ (w : World) (run : (c : ℕ) → c < chainCount → Linked (w .links .next) (firstOf w c) (chain w c)) where
+  -- the bit of a bucket's first link is 1 just if the bucket is not empty
+  flag-empty : (b : ℕ) → b < waitingChain → chain w b ≡ [] → flag (firstOf w b) ≡ 0
+  flag-empty b l e = flag-none (firstOf w b) (subst (Linked (w .links .next) (firstOf w b)) e (run b (omega arith)))
+
+  flag-busy : (b : ℕ) → b < waitingChain → chain w b ≢ [] → flag (firstOf w b) ≡ 1
+  flag-busy b l n = flag-some (firstOf w b) (go (chain w b) (run b (omega arith)) n)
+    where
+      go : (ss : List ℕ) → Linked (w .links .next) (firstOf w b) ss → ss ≢ [] → firstOf w b ≢ 0
+      go [] k z = absurd (z refl)
+      go (s ∷ ss) k z = λ e. let f = k .0 in omega arith
+
+  -- the words of a summary have the bits of a sound world, and no other words have them
+  module _ (m : w .links .busy ≡ summary (w .links .first)) where
+    flag-bit : (b : ℕ) → b < waitingChain → bitAt (w .links .busy) b ≡ flag (firstOf w b)
+    flag-bit b l = ap (λ (x : List ℕ). bitAt x b) m ∙ summary-bit (w .links .first) b l
+
+    pub marks-bits : (b : ℕ) → b < waitingChain → (bitAt (w .links .busy) b ≡ 1) ↔ (chain w b ≢ [])
+    marks-bits b l = ((λ e n. let f = flag-bit b l in let z = flag-empty b l n in omega arith), λ n. flag-bit b l ∙ flag-busy b l n)
+
+    pub marks-rest : (b : ℕ) → waitingChain ≤ b → bitAt (w .links .busy) b ≡ 0
+    marks-rest b h = ap (λ (x : List ℕ). bitAt x b) m ∙ summary-rest (w .links .first) b h
+
+  pub bits-marks : Typed (w .links) → ((b : ℕ) → b < waitingChain → (bitAt (w .links .busy) b ≡ 1) ↔ (chain w b ≢ [])) → ((b : ℕ) → waitingChain ≤ b → bitAt (w .links .busy) b ≡ 0)
+      → w .links .busy ≡ summary (w .links .first)
+  bits-marks t h = bits-summary (w .links .first) (w .links .busy) (record { three = t .busies; fit = t .busyFits }) (λ b l. go b l (chain w b) refl)
+    where
+      go : (b : ℕ) → b < waitingChain → (ss : List ℕ) → chain w b ≡ ss → bitAt (w .links .busy) b ≡ flag (firstOf w b)
+      go b l [] e = let z = flag-empty b l e in let n : bitAt (w .links .busy) b ≢ 1 = λ p. h b l .0 p e in omega (arith, z, n)
+      go b l (s ∷ ss) e = let n : chain w b ≢ [] = λ p. some-none (sym e ∙ p) in h b l .1 n ∙ sym (flag-busy b l n)
+        where
+          some-none : s ∷ ss ≡ [] → ⊥
+          some-none p = let z : suc (length ss) ≡ 0 = ap length p in omega arith
+
 -- ---- what the examination finds
 
 pub record Passed (w : World) : Type 0 where
   pub head : headed (w .head) ≡ true
+  pub marks : w .links .busy ≡ summary (w .links .first)
   pub busy : (d : ℕ) → d < freeChain → Chained w d
   pub free : Walked (okFree (w .head .kind) (w .links) (w .keys) (w .values)) (w .links .next) (lastOf w freeChain) 0 (firstOf w freeChain) (chain w freeChain)
   pub counted : w .head .len ≡ total (busyChains w)
@@ -413,6 +475,8 @@ module _ (w : World) (h : Passed w) where
     freeBacks = λ s o. p-blank s o .noBack;
     noFirst = λ c k e. subst (Linked (w .links .next) (firstOf w c)) e (p-linked c k);
     noLast = λ c k e. p-ends c k ∙ ap (lastFrom 0) e;
+    busyBits = marks-bits w p-linked (h .marks);
+    busyRest = marks-rest w p-linked (h .marks);
     counted = h .counted ∙ sym (length-join (busyChains w));
     noBuckets = λ t c k. no-slots (chain w c) (λ s o. let a = p-place c (omega arith) s o .belongs in let b = home-untopped w s t in omega arith);
     noTop0 = headed-top0 w (h .head);
@@ -500,9 +564,13 @@ module _ (w : World) (h : Sound w) where
   pub sound-full : total (chains w) ≡ size w
   sound-full = sym (sum-tally (size w) (chains w) sound-only) ∙ sum-ones (size w) (λ s. tally s (chains w)) sound-once
 
-  sound-passed : Passed w
-  sound-passed = record {
+  pub sound-marks : Typed (w .links) → w .links .busy ≡ summary (w .links .first)
+  sound-marks t = bits-marks w (h .run) t (h .busyBits) (h .busyRest)
+
+  sound-passed : Typed (w .links) → Passed w
+  sound-passed t = record {
     head = is-headed w (h .noTop0) (h .noTop1) (h .oneWord);
+    marks = sound-marks t;
     busy = λ d k. record {
       walked = record {
         linked = h .run d (omega arith);
@@ -558,14 +626,32 @@ finish-complete w left a b =
     ap (λ (x : Bool). elim x as (λ y. ℕ) [ true ↦ 0 | false ↦ 2 ])
     (and-both (eqb (left + w .head .len) (size w)) (eqb (verify (okFree (w .head .kind) (w .links) (w .keys) (w .values)) (w .links .next) (lastOf w freeChain) left 0 (firstOf w freeChain)) 1) (is-eqb _ _ a) (is-eqb _ _ b))
 
-scan-passed : (w : World) → headed (w .head) ≡ true → finish w (scan (w .head) (w .links) (w .keys) freeChain 0 (suc (size w))) ≡ 0 → Passed w
+-- the scan, and the words that it asks for
+module _ (w : World) where
+  abbrev words-test : Bool
+  words-test = sameWords (summary (w .links .first)) (w .links .busy)
+
+  scanned-marks : Typed (w .links) → (r : ℕ) → scanned (w .head) (w .links) (w .keys) ≡ suc r → w .links .busy ≡ summary (w .links .first)
+  unfolding scanned
+  scanned-marks t r e = sym (same-words (summary (w .links .first)) (w .links .busy) (summary-words (w .links .first) .three) (t .busies) (gate-open words-test _ r e))
+
+  scanned-scan : (r : ℕ) → scanned (w .head) (w .links) (w .keys) ≡ suc r → scan (w .head) (w .links) (w .keys) freeChain 0 (suc (size w)) ≡ suc r
+  unfolding scanned
+  scanned-scan r e = sym (gate-same words-test _ (gate-open words-test _ r e)) ∙ e
+
+  scan-scanned : w .links .busy ≡ summary (w .links .first) → scanned (w .head) (w .links) (w .keys) ≡ scan (w .head) (w .links) (w .keys) freeChain 0 (suc (size w))
+  unfolding scanned
+  scan-scanned m = gate-same words-test _ (words-same (summary (w .links .first)) (w .links .busy) (sym m))
+
+scan-passed : (w : World) → Typed (w .links) → headed (w .head) ≡ true → finish w (scanned (w .head) (w .links) (w .keys)) ≡ 0 → Passed w
 unfolding busyChains
-scan-passed w e f =
-    let r = finish-sound w (scan (w .head) (w .links) (w .keys) freeChain 0 (suc (size w))) f in
-    let i = scan-sound w freeChain 0 (size w) (r .0) (r .1) (le-refl (size w)) in
+scan-passed w t e f =
+    let r = finish-sound w (scanned (w .head) (w .links) (w .keys)) f in
+    let i = scan-sound w freeChain 0 (size w) (r .0) (scanned-scan w (r .0) (r .1)) (le-refl (size w)) in
     let j = walked-chain w (okFree (w .head .kind) (w .links) (w .keys) (w .values)) (lastOf w freeChain) (r .0) 0 (firstOf w freeChain) (r .3) (room (r .0) (r .2)) in
     record {
       head = e;
+      marks = scanned-marks w t (r .0) (r .1);
       busy = λ d k. i .0 d zero-le k;
       free = j .0;
       counted = len-is (r .0) (total (busyChains w)) (r .2) (i .1);
@@ -581,10 +667,10 @@ scan-passed w e f =
     full-is : (l t f : ℕ) → size w ≡ l + t → l ≡ 0 + f → t + f ≡ size w
     full-is l t f p q = omega arith
 
-passed-scan : (w : World) → Passed w → finish w (scan (w .head) (w .links) (w .keys) freeChain 0 (suc (size w))) ≡ 0
+passed-scan : (w : World) → Passed w → finish w (scanned (w .head) (w .links) (w .keys)) ≡ 0
 unfolding busyChains
 passed-scan w h =
-    ap (finish w) (scan-complete w freeChain 0 (size w) (length (chain w freeChain)) (λ d p k. h .busy d k) (flip (total (busyChains w)) (length (chain w freeChain)) (h .full)))
+    ap (finish w) (scan-scanned w (h .marks) ∙ scan-complete w freeChain 0 (size w) (length (chain w freeChain)) (λ d p k. h .busy d k) (flip (total (busyChains w)) (length (chain w freeChain)) (h .full)))
     ∙ finish-complete w (length (chain w freeChain)) (sum-is (total (busyChains w)) (length (chain w freeChain)) (h .full) (h .counted))
     (verify-complete (okFree (w .head .kind) (w .links) (w .keys) (w .values)) (w .links .next) (lastOf w freeChain) (chain w freeChain) (length (chain w freeChain)) 0 (firstOf w freeChain) 0 (h .free) (omega arith))
   where
@@ -597,7 +683,7 @@ passed-scan w h =
 pub code : Bool → Bool → ℕ → ℕ
 code a b n = elim a [ false ↦ 1 | true ↦ elim b [ false ↦ 2 | true ↦ n ] ]
 
-pub examined-code : (w : World) → examined w ≡ code (fitting w) (headed (w .head)) (finish w (scan (w .head) (w .links) (w .keys) freeChain 0 (suc (size w))))
+pub examined-code : (w : World) → examined w ≡ code (fitting w) (headed (w .head)) (finish w (scanned (w .head) (w .links) (w .keys)))
 unfolding examined code
 examined-code w = refl
 
@@ -638,32 +724,32 @@ unfolding code
 code-unheaded a b n p q = rw (p, q)
 
 -- code 0: the pool is fit and sound
-pub examined-sound : (w : World) → (examined w ≡ 0) ↔ (Fit w × Sound w)
-examined-sound w = (to, from)
+pub examined-sound : (w : World) → Typed (w .links) → (examined w ≡ 0) ↔ (Fit w × Sound w)
+examined-sound w t = (to, from)
   where
     to : examined w ≡ 0 → Fit w × Sound w
     to e =
-        let r = code-zero (fitting w) (headed (w .head)) (finish w (scan (w .head) (w .links) (w .keys) freeChain 0 (suc (size w)))) (sym (examined-code w) ∙ e) in
-        (fitting-fit w (r .0), passed-sound w (scan-passed w (r .1) (r .2)))
+        let r = code-zero (fitting w) (headed (w .head)) (finish w (scanned (w .head) (w .links) (w .keys))) (sym (examined-code w) ∙ e) in
+        (fitting-fit w (r .0), passed-sound w (scan-passed w t (r .1) (r .2)))
 
     from : Fit w × Sound w → examined w ≡ 0
     from h =
-        let p = sound-passed w (h .1) in
-        examined-code w ∙ code-at (fitting w) (headed (w .head)) (finish w (scan (w .head) (w .links) (w .keys) freeChain 0 (suc (size w)))) (fit-fitting w (h .0)) (p .head) ∙ passed-scan w p
+        let p = sound-passed w (h .1) t in
+        examined-code w ∙ code-at (fitting w) (headed (w .head)) (finish w (scanned (w .head) (w .links) (w .keys))) (fit-fitting w (h .0)) (p .head) ∙ passed-scan w p
 
 -- code 1: the pool is not fit
 pub examined-unfit : (w : World) → (examined w ≡ 1) ↔ (¬ Fit w)
 examined-unfit w = (to, from)
   where
     to : examined w ≡ 1 → ¬ Fit w
-    to e h = true≢false (sym (fit-fitting w h) ∙ code-one (fitting w) (headed (w .head)) (finish w (scan (w .head) (w .links) (w .keys) freeChain 0 (suc (size w)))) (finish-not-one w (scan (w .head) (w .links) (w .keys) freeChain 0 (suc (size w)))) (sym (examined-code w) ∙ e))
+    to e h = true≢false (sym (fit-fitting w h) ∙ code-one (fitting w) (headed (w .head)) (finish w (scanned (w .head) (w .links) (w .keys))) (finish-not-one w (scanned (w .head) (w .links) (w .keys))) (sym (examined-code w) ∙ e))
 
     no-fit : (b : Bool) → fitting w ≡ b → (Fit w → ⊥) → fitting w ≡ false
     no-fit true e n = absurd (n (fitting-fit w e))
     no-fit false e n = e
 
     from : ¬ Fit w → examined w ≡ 1
-    from n = examined-code w ∙ code-unfit (fitting w) (headed (w .head)) (finish w (scan (w .head) (w .links) (w .keys) freeChain 0 (suc (size w)))) (no-fit (fitting w) refl n)
+    from n = examined-code w ∙ code-unfit (fitting w) (headed (w .head)) (finish w (scanned (w .head) (w .links) (w .keys))) (no-fit (fitting w) refl n)
 
 finish-le : (w : World) (v : ℕ) → finish w v ≤ 2
 unfolding finish
@@ -682,7 +768,7 @@ code-le false b n h = omega arith
 
 -- there is no other code than 0, 1 and 2
 pub examined-le : (w : World) → examined w ≤ 2
-examined-le w = rw (examined-code w) (code-le (fitting w) (headed (w .head)) (finish w (scan (w .head) (w .links) (w .keys) freeChain 0 (suc (size w)))) (finish-le w (scan (w .head) (w .links) (w .keys) freeChain 0 (suc (size w)))))
+examined-le w = rw (examined-code w) (code-le (fitting w) (headed (w .head)) (finish w (scanned (w .head) (w .links) (w .keys))) (finish-le w (scanned (w .head) (w .links) (w .keys))))
 
 pub fit-dec : (w : World) → Dec (Fit w)
 fit-dec w = go (fitting w) refl
@@ -692,19 +778,19 @@ fit-dec w = go (fitting w) refl
     go false e = no (λ h. true≢false (sym (fit-fitting w h) ∙ e))
 
 -- code 2: the pool is fit and not sound
-pub examined-unsound : (w : World) → (examined w ≡ 2) ↔ (Fit w × (¬ Sound w))
-examined-unsound w = (to, from)
+pub examined-unsound : (w : World) → Typed (w .links) → (examined w ≡ 2) ↔ (Fit w × (¬ Sound w))
+examined-unsound w t = (to, from)
   where
     fit : Dec (Fit w) → examined w ≡ 2 → Fit w
     fit (yes f) e = f
     fit (no n) e = let z : examined w ≡ 1 = examined-unfit w .1 n in absurd (omega arith)
 
     to : examined w ≡ 2 → Fit w × (¬ Sound w)
-    to e = (fit (fit-dec w) e, λ s. let z : examined w ≡ 0 = examined-sound w .1 (fit (fit-dec w) e, s) in omega arith)
+    to e = (fit (fit-dec w) e, λ s. let z : examined w ≡ 0 = examined-sound w t .1 (fit (fit-dec w) e, s) in omega arith)
 
     from : Fit w × (¬ Sound w) → examined w ≡ 2
     from h =
-        let a : examined w ≢ 0 = λ z. h .1 (examined-sound w .0 z .1) in
+        let a : examined w ≢ 0 = λ z. h .1 (examined-sound w t .0 z .1) in
         let b : examined w ≢ 1 = λ z. examined-unfit w .0 z (h .0) in
         let c = examined-le w in
         omega arith

@@ -18,6 +18,7 @@ use Rattle.pool.specs.Sound.{Fit, Whole, limit}
 use Rattle.pool.specs.Fine.{Under, FineAt, Fine, Room, Holds, Ready}
 use Rattle.pool.specs.Core.{appendedBy, appended, unhookedBy, unhooked, cut, freed, emptied, better, greatestFrom, drained, drainFrom, busyFrom}
 use Rattle.pool.proofs.Chains.{hit-same, hit-cases, tally-ge, tally-find, last-on0}
+use Rattle.pool.proofs.Marks.{mark-summary, unmark-summary, summary-past}
 use Rattle.pool.proofs.Laid.{Good, laid-inside}
 use Rattle.pool.proofs.Follows.{whole-good, free-len}
 
@@ -45,6 +46,7 @@ appendedBy-fine true n s c i f h = record {
   last = under-set _ _ (f .last) (omega arith);
   next = under-set _ _ (f .next) (omega arith);
   back = under-set _ _ (f .back) (f .last .at c);
+  marks = mark-summary (s .first) (f .marks) c (i + 1) (omega (arith, f .firsts)) (omega arith);
 }
 appendedBy-fine false n s c i f h = record {
   small = f .small;
@@ -56,6 +58,7 @@ appendedBy-fine false n s c i f h = record {
   last = under-set _ _ (f .last) (omega arith);
   next = under-set _ _ (under-set _ _ (f .next) (omega arith)) zero-le;
   back = under-set _ _ (f .back) (f .last .at c);
+  marks = f .marks;
 }
 
 pub appended-fine : (n : ℕ) (s : Links) (c i : ℕ) → FineAt n s → i < n → FineAt n (appended s c i)
@@ -74,6 +77,7 @@ unhookedBy-fine true n s r f h = record {
   last = under-set _ _ (f .last) zero-le;
   next = f .next;
   back = f .back;
+  marks = summary-past (s .first) (f .marks) freeChain r (omega arith);
 }
 unhookedBy-fine false n s r f h = record {
   small = f .small;
@@ -85,6 +89,7 @@ unhookedBy-fine false n s r f h = record {
   last = f .last;
   next = f .next;
   back = f .back;
+  marks = summary-past (s .first) (f .marks) freeChain r (omega arith);
 }
 
 pub unhooked-fine : (n : ℕ) (s : Links) (i : ℕ) → FineAt n s → FineAt n (unhooked s i)
@@ -103,6 +108,7 @@ cut-fine true n s p f h = record {
   last = under-set _ _ (f .last) h;
   next = f .next;
   back = f .back;
+  marks = unmark-summary (s .first) (f .marks) 0 (omega (arith, f .firsts));
 }
 cut-fine false n s p f h = record {
   small = f .small;
@@ -114,6 +120,7 @@ cut-fine false n s p f h = record {
   last = under-set _ _ (f .last) h;
   next = under-set _ _ (f .next) zero-le;
   back = f .back;
+  marks = f .marks;
 }
 
 pub emptied-fine : (n : ℕ) (s : Links) (c : ℕ) → FineAt n s → FineAt n (emptied s c)
@@ -128,6 +135,7 @@ emptied-fine n s c f = record {
   last = under-set _ _ (f .last) zero-le;
   next = f .next;
   back = f .back;
+  marks = unmark-summary (s .first) (f .marks) c (omega (arith, f .firsts));
 }
 
 pub drained-fine : (n m kind : ℕ) (keys : List ℕ) (t at moves : ℕ) (s : Links) → FineAt n s → at ≤ n → FineAt n (drainFrom m kind keys t at moves s .to)
@@ -241,6 +249,7 @@ whole-fine {w} h = record {
   last = past (w .links .last) (size w) chainCount (h .typed .lasts) (λ c k. subst (λ (x : ℕ). x ≤ size w) (sym (g .laid .ends c k)) (last-le (size w) (getD (chains w) c []) (inside c)));
   next = past (w .links .next) (size w) (size w) refl (λ s k. let r = find s k in next-le (w .links .next) (size w) (firstOf w (r .0)) s (getD (chains w) (r .0) []) (g .laid .linked (r .0) (r .1)) (inside (r .0)) (r .2));
   back = past (w .links .back) (size w) (size w) (h .fit .someBacks) (λ s k. let r = find s k in back-at s (r .0) (r .1) (r .2) (ℕ-discrete (r .0) freeChain));
+  marks = g .laid .marks;
 }
   where
     g : Good w (chains w)

@@ -39,8 +39,8 @@ good-whole g = record { typed = g .laid .typed; fit = g .fit; sound = good-sound
 -- the examination passes just the sound worlds
 pub examined-whole : (w : World) → Typed (w .links) → (examined w ≡ 0) ↔ Whole w
 examined-whole w t = (
-  (λ e. let h : Fit w × Sound w = examined-sound w .0 e in record { typed = t; fit = h .0; sound = h .1 }),
-  (λ h. examined-sound w .1 (h .fit, h .sound)),
+  (λ e. let h : Fit w × Sound w = examined-sound w t .0 e in record { typed = t; fit = h .0; sound = h .1 }),
+  (λ h. examined-sound w t .1 (h .fit, h .sound)),
 )
 
 -- a sound world in which this heap stands, with these free slots

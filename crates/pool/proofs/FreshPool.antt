@@ -15,7 +15,9 @@ use Rattle.pool.proofs.Chains.{hit-same, hit-other, hit-cases, tally-se
 use Rattle.keys.specs.Ordered.{words}
 use Rattle.pool.specs.World.{freeChain, chainCount, size, firstOf, lastOf, keyWord0, keyWord1, word0, word1}
 use Rattle.pool.specs.Sound.{limit, Typed, Fit}
-use Rattle.pool.proofs.Laid.{Laid, Filed, Good}
+use Rattle.pool.specs.Marks.{summary}
+use Rattle.pool.proofs.Marks.{summary-none}
+use Rattle.pool.proofs.Laid.{Laid, Filed, Good, summed-typed}
 use Rattle.pool.specs.Core.{freshNext, freshFirst, freshCore}
 use Rattle.pool.proofs.Keys.{word0-wide, word0-slim, word1-wide, word1-slim}
 
@@ -164,12 +166,15 @@ module _ (kind n : ℕ) (t : Bool) (a b : ℕ) where
       go true e = word1-wide kind (replicate (words kind * n) 0) s e ∙ zeros (words kind * n) (2 * s + 1)
       go false e = word1-slim kind (replicate (words kind * n) 0) s e
 
+  f-marks : freshCore kind n t a b .links .busy ≡ summary (freshCore kind n t a b .links .first)
+  unfolding freshCore
+  f-marks = summary-none (set (replicate chainCount 0) freeChain (freshFirst n)) (λ c k. set-rest c (freshFirst n) (omega arith))
+
   f-typed : Typed (freshCore kind n t a b .links)
   unfolding freshCore
-  f-typed = record {
-    firsts = length-set (replicate chainCount 0) freeChain (freshFirst n) ∙ length-replicate {A = ℕ} chainCount 0;
-    lasts = length-set (replicate chainCount 0) freeChain n ∙ length-replicate {A = ℕ} chainCount 0;
-  }
+  f-typed =
+      summed-typed (length-set (replicate chainCount 0) freeChain (freshFirst n) ∙ length-replicate {A = ℕ} chainCount 0)
+      (length-set (replicate chainCount 0) freeChain n ∙ length-replicate {A = ℕ} chainCount 0) f-marks
 
   f-many : length (freshChains n) ≡ chainCount
   unfolding freshChains
@@ -205,6 +210,7 @@ module _ (kind n : ℕ) (t : Bool) (a b : ℕ) where
     freed = λ s o. f-back s;
     once = λ s k. add-zero (tally s (freshChains n)) ∙ fresh-tally s n ∙ run-count s 0 n zero-le (let e = f-size in omega arith);
     only = λ s k. add-zero (tally s (freshChains n)) ∙ fresh-tally s n ∙ run-none s 0 n (inr (let e = f-size in omega arith));
+    marks = f-marks;
   }
 
   f-empty : {A : Type 0} (c : ℕ) → c < freeChain → (s : ℕ) → On s (getD (freshChains n) c []) → A

@@ -13,8 +13,16 @@ use Rattle.pool.specs.Chain.{count, tally, total, tab, walk, Linked, Bac
 use Rattle.pool.proofs.Chains.{tally-set, tally-ge2, total-set}
 use Rattle.pool.proofs.Chains.{length-tab, getD-tab, sum-tally, sum-ones, walk-linked, linked-agree, backed-agree, no-slots, count-join, length-join}
 use Rattle.pool.specs.World.{waitingChain, freeChain, chainCount, Links, World, size, firstOf, chain, chains, busyChains, word0, word1, keyAt, topKey, home, under}
+use Rattle.pool.specs.Marks.{summary}
 use Rattle.pool.specs.Sound.{Typed, Fit, Sound}
-use Rattle.pool.proofs.Exam.{s-place, home-topped, home-untopped, under-topped, leb-is, distanceAt-le, chains-total, sound-full, sound-once, sound-only, sound-counted}
+use Rattle.pool.proofs.Marks.{Words, summary-words}
+use Rattle.pool.proofs.Exam.{s-place, home-topped, home-untopped, under-topped, leb-is, distanceAt-le, chains-total, sound-full, sound-once, sound-only, sound-counted, sound-marks, marks-bits, marks-rest}
+
+-- arrays of the types' sizes, with busy words that are a summary
+pub summed-typed : {lk : Links} → length (lk .first) ≡ chainCount → length (lk .last) ≡ chainCount → lk .busy ≡ summary (lk .first) → Typed lk
+summed-typed {lk} f l e =
+    let t : Words (lk .busy) = subst Words (sym e) (summary-words (lk .first)) in
+    record { firsts = f; lasts = l; busies = t .three; busyFits = t .fit }
 
 -- the chains are `ls`, and the slots of `off` stand on none
 pub record Laid (lk : Links) (ls : List (List ℕ)) (off : List ℕ) : Type 0 where
@@ -27,6 +35,7 @@ pub record Laid (lk : Links) (ls : List (List ℕ)) (off : List ℕ) : Type 0 wh
   pub freed : (s : ℕ) → On s (getD ls freeChain []) → getD (lk .back) s 0 ≡ 0
   pub once : (s : ℕ) → s < length (lk .next) → tally s ls + count s off ≡ 1
   pub only : (s : ℕ) → length (lk .next) ≤ s → tally s ls + count s off ≡ 0
+  pub marks : lk .busy ≡ summary (lk .first)
 
 -- chain c becomes `l`, and the slots off every chain become `off′`: nothing else is touched
 pub record Touch (lk lk′ : Links) (ls : List (List ℕ)) (off : List ℕ) (c : ℕ) (l off′ : List ℕ) : Type 0 where
@@ -42,6 +51,7 @@ pub record Touch (lk lk′ : Links) (ls : List (List ℕ)) (off : List ℕ) (c :
   pub backed : c < freeChain → Backed (lk′ .back) 0 l
   pub freed : c ≡ freeChain → (s : ℕ) → On s l → getD (lk′ .back) s 0 ≡ 0
   pub counts : (s : ℕ) → count s l + count s off′ ≡ count s (getD ls c []) + count s off
+  pub marks : lk′ .busy ≡ summary (lk′ .first)
 
 module _ {lk : Links} {ls : List (List ℕ)} {off : List ℕ} (h : Laid lk ls off) where
   -- no slot is counted twice
@@ -106,6 +116,7 @@ module _ {lk : Links} {ls : List (List ℕ)} {off : List ℕ} (h : Laid lk ls of
       freed = t-freed (ℕ-discrete freeChain c);
       once = λ s q. t-count s ∙ h .once s (subst (λ (n : ℕ). s < n) (t .sized) q);
       only = λ s q. t-count s ∙ h .only s (subst (λ (n : ℕ). n ≤ s) (t .sized) q);
+      marks = t .marks;
     }
 
 -- ---- with no slot off the chains
@@ -178,6 +189,7 @@ module _ (w : World) (f : Fit w) (t : Typed (w .links)) (h : Sound w) where
     freed = λ s o. h .freeBacks s (on freeChain (omega arith) s o);
     once = λ s k. add-zero (tally s (chains w)) ∙ sound-once w h s k;
     only = λ s k. add-zero (tally s (chains w)) ∙ sound-only w h s k;
+    marks = sound-marks w h t;
   }
 
   pub sound-filed : Filed w (chains w)
@@ -212,16 +224,21 @@ module _ {w : World} {ls : List (List ℕ)} (g : Good w ls) where
       let e : length (chain w freeChain) ≡ length (getD ls freeChain []) = ap length (laid-chain (g .laid) freeChain (omega arith)) in
       omega (arith, a, b, c, d, e)
 
+  g-run : (c : ℕ) → c < chainCount → Linked (w .links .next) (firstOf w c) (chain w c)
+  g-run c k = rw (laid-chain (g .laid) c k) (g .laid .linked c k)
+
   pub good-sound : Sound w
   good-sound = record {
     once = λ s k. count-join s (chains w) ∙ g-tally s ∙ g .laid .once s k;
     only = λ s k. count-join s (chains w) ∙ g-tally s ∙ g .laid .only s k;
-    run = λ c k. rw (laid-chain (g .laid) c k) (g .laid .linked c k);
+    run = g-run;
     ends = λ c k. rw (laid-chain (g .laid) c k) (g .laid .ends c k);
     backs = λ c k. rw (laid-chain (g .laid) c (omega arith)) (g .laid .backed c k);
     freeBacks = λ s o. g .laid .freed s (g-on freeChain (omega arith) s o);
     noFirst = λ c k e. subst (Linked (w .links .next) (firstOf w c)) (sym (laid-chain (g .laid) c k) ∙ e) (g .laid .linked c k);
     noLast = λ c k e. g .laid .ends c k ∙ ap (lastFrom 0) (sym (laid-chain (g .laid) c k) ∙ e);
+    busyBits = marks-bits w g-run (g .laid .marks);
+    busyRest = marks-rest w g-run (g .laid .marks);
     counted = g-counted ∙ sym (length-join (busyChains w));
     noBuckets = λ t c k. no-slots (chain w c) (λ s o. let a = g .filed .belongs c (omega arith) s (g-on c (omega arith) s o) in let b = home-untopped w s t in omega arith);
     noTop0 = g .filed .noTop0;

@@ -15,6 +15,7 @@ use Rattle.rule.specs.Rule.{Heap}
 use Rattle.pool.specs.Chain.{hit, count, tally, tab, Linked, Backed, lastFrom, On}
 use Rattle.pool.specs.World.{waitingChain, freeChain, chainCount, Links, World, size, chains}
 use Rattle.pool.specs.Sound.{Whole}
+use Rattle.pool.specs.Marks.{summary}
 use Rattle.pool.specs.Lay.{heapIn, withFree, firstIn, after, before, nextIn, backIn, lay}
 use Rattle.pool.proofs.Chains.{hit-same, hit-cases, length-tab, getD-tab}
 use Rattle.pool.proofs.Laid.{Laid, sound-laid}
@@ -136,7 +137,7 @@ module _ {lk : Links} {ls : List (List ℕ)} (h : Laid lk ls []) where
   -- links laid out as given chains are the layout of these chains
   pub lay-laid : lay ls (length (lk .next)) ≡ lk
   unfolding lay
-  lay-laid = λ i. record { first = lay-first i; last = lay-last i; next = lay-next i; back = lay-back i }
+  lay-laid = λ i. record { first = lay-first i; last = lay-last i; next = lay-next i; back = lay-back i; busy = (ap summary lay-first ∙ sym (h .marks)) i }
 
 -- the links of a fit and sound world are the layout of its chains
 pub lay-chains : {w : World} → Whole w → lay (chains w) (size w) ≡ w .links

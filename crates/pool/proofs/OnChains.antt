@@ -13,7 +13,9 @@ use lib.Seq.{getD-set-same, getD-set-other}
 use Rattle.pool.specs.Chain.{hit, count, Linked, Backed, lastFrom, On}
 use Rattle.pool.proofs.Chains.{hit-same, hit-cases, tally-ge, count-append, last-on0, last-on, last-some, last-append, linked-agree, backed-agree, linked-snoc, linked-unsnoc, backed-snoc, backed-unsnoc}
 use Rattle.pool.specs.World.{freeChain, Links, links}
-use Rattle.pool.proofs.Laid.{Laid, Touch, laid-most, laid-inside}
+use Rattle.pool.specs.Marks.{summary, marked, unmarked}
+use Rattle.pool.proofs.Marks.{mark-summary, unmark-summary, summary-past}
+use Rattle.pool.proofs.Laid.{Laid, Touch, summed-typed, laid-most, laid-inside}
 use Rattle.pool.specs.Core.{appended, unhooked, cut, freed, emptied}
 
 -- ---- the core's stores once more, with the link itself in place of the test
@@ -27,17 +29,26 @@ abbrev setIfSome : ℕ → List ℕ → ℕ → List ℕ
 setIfSome zero l v = l
 setIfSome (suc t) l v = set l t v
 
+-- the bit of chain c is set, or cleared, if the link is none
+abbrev markIfNone : ℕ → List ℕ → ℕ → List ℕ
+markIfNone zero words c = marked words c
+markIfNone (suc t) words c = words
+
+abbrev unmarkIfNone : ℕ → List ℕ → ℕ → List ℕ
+unmarkIfNone zero words c = unmarked words c
+unmarkIfNone (suc t) words c = words
+
 abbrev onTail : Links → ℕ → ℕ → Links
-onTail lk c s = links (setIfNone (getD (lk .last) c 0) (lk .first) c (suc s)) (set (lk .last) c (suc s)) (set (setIfSome (getD (lk .last) c 0) (lk .next) (suc s)) s 0) (set (lk .back) s (getD (lk .last) c 0))
+onTail lk c s = links (setIfNone (getD (lk .last) c 0) (lk .first) c (suc s)) (set (lk .last) c (suc s)) (set (setIfSome (getD (lk .last) c 0) (lk .next) (suc s)) s 0) (set (lk .back) s (getD (lk .last) c 0)) (markIfNone (getD (lk .last) c 0) (lk .busy) c)
 
 abbrev offFree : Links → ℕ → Links
-offFree lk s = links (set (lk .first) freeChain (getD (lk .next) s 0)) (setIfNone (getD (lk .next) s 0) (lk .last) freeChain 0) (lk .next) (lk .back)
+offFree lk s = links (set (lk .first) freeChain (getD (lk .next) s 0)) (setIfNone (getD (lk .next) s 0) (lk .last) freeChain 0) (lk .next) (lk .back) (lk .busy)
 
 abbrev offTail : Links → ℕ → Links
-offTail lk s = links (setIfNone (getD (lk .back) s 0) (lk .first) 0 0) (set (lk .last) 0 (getD (lk .back) s 0)) (setIfSome (getD (lk .back) s 0) (lk .next) 0) (lk .back)
+offTail lk s = links (setIfNone (getD (lk .back) s 0) (lk .first) 0 0) (set (lk .last) 0 (getD (lk .back) s 0)) (setIfSome (getD (lk .back) s 0) (lk .next) 0) (lk .back) (unmarkIfNone (getD (lk .back) s 0) (lk .busy) 0)
 
 abbrev toFree : Links → ℕ → Links
-toFree lk s = links (set (lk .first) freeChain (suc s)) (setIfNone (getD (lk .first) freeChain 0) (lk .last) freeChain (suc s)) (set (lk .next) s (getD (lk .first) freeChain 0)) (set (lk .back) s 0)
+toFree lk s = links (set (lk .first) freeChain (suc s)) (setIfNone (getD (lk .first) freeChain 0) (lk .last) freeChain (suc s)) (set (lk .next) s (getD (lk .first) freeChain 0)) (set (lk .back) s 0) (lk .busy)
 
 pub less-one : (t : ℕ) → suc t - 1 ≡ t
 less-one t = omega arith
@@ -125,12 +136,16 @@ module _ {lk : Links} {ls : List (List ℕ)} {off : List ℕ} {s : ℕ} (c : ℕ
   a-back : (x : ℕ) → x ≢ s → getD (set (lk .back) s (getD (lk .last) c 0)) x 0 ≡ getD (lk .back) x 0
   a-back x n = getD-set-other (lk .back) s x (getD (lk .last) c 0) 0 n
 
+  a-marks : onTail lk c s .busy ≡ summary (onTail lk c s .first)
+  a-marks = go (getD (lk .last) c 0)
+    where
+      go : (t : ℕ) → markIfNone t (lk .busy) c ≡ summary (setIfNone t (lk .first) c (suc s))
+      go zero = mark-summary (lk .first) (h .marks) c (suc s) (omega (arith, h .typed .firsts)) (omega arith)
+      go (suc t) = h .marks
+
   on-touch : Touch lk (onTail lk c s) ls (s ∷ off) c (getD ls c [] ++ s ∷ []) off
   on-touch = record {
-    typed = record {
-      firsts = length-setIfNone (getD (lk .last) c 0) (lk .first) c (suc s) ∙ h .typed .firsts;
-      lasts = length-set (lk .last) c (suc s) ∙ h .typed .lasts;
-    };
+    typed = summed-typed (length-setIfNone (getD (lk .last) c 0) (lk .first) c (suc s) ∙ h .typed .firsts) (length-set (lk .last) c (suc s) ∙ h .typed .lasts) a-marks;
     sized = length-set (setIfSome (getD (lk .last) c 0) (lk .next) (suc s)) s 0 ∙ length-setIfSome (getD (lk .last) c 0) (lk .next) (suc s);
     backSized = length-set (lk .back) s (getD (lk .last) c 0);
     first = λ d n. setIfNone-other (getD (lk .last) c 0) (lk .first) c (suc s) d n;
@@ -147,6 +162,7 @@ module _ {lk : Links} {ls : List (List ℕ)} {off : List ℕ} {s : ℕ} (c : ℕ
         (getD-set-same (lk .back) s (getD (lk .last) c 0) 0 (let e = h .sized in let i = a-inside in omega arith) ∙ h .ends c (omega arith));
     freed = λ e. absurd (omega arith);
     counts = λ x. let a = count-append x (getD ls c []) (s ∷ []) in omega arith;
+    marks = a-marks;
   }
 
   pub append-touch : Touch lk (appended lk c s) ls (s ∷ off) c (getD ls c [] ++ s ∷ []) off
@@ -182,6 +198,8 @@ off-free-touch {lk} {ls} {off} {s} fs h e =
       typed = record {
         firsts = length-set (lk .first) freeChain (getD (lk .next) s 0) ∙ h .typed .firsts;
         lasts = length-setIfNone (getD (lk .next) s 0) (lk .last) freeChain 0 ∙ h .typed .lasts;
+        busies = h .typed .busies;
+        busyFits = h .typed .busyFits;
       };
       sized = refl;
       backSized = refl;
@@ -194,6 +212,7 @@ off-free-touch {lk} {ls} {off} {s} fs h e =
       backed = λ q. absurd (omega arith);
       freed = λ q x o. h .freed x (let a : count x (getD ls freeChain []) ≡ hit x s + count x fs = ap (count x) e in omega arith);
       counts = λ x. let a : count x (getD ls freeChain []) ≡ hit x s + count x fs = ap (count x) e in omega arith;
+      marks = summary-past (lk .first) (h .marks) freeChain (getD (lk .next) s 0) (omega arith);
     }
 
 pub unhook-touch : {lk : Links} {ls : List (List ℕ)} {off : List ℕ} {s : ℕ} (fs : List ℕ) → Laid lk ls off → getD ls freeChain [] ≡ s ∷ fs → Touch lk (unhooked lk s) ls off freeChain fs (s ∷ off)
@@ -217,6 +236,8 @@ to-free-touch {lk} {ls} {off} {s} h =
       typed = record {
         firsts = length-set (lk .first) freeChain (suc s) ∙ h .typed .firsts;
         lasts = length-setIfNone (getD (lk .first) freeChain 0) (lk .last) freeChain (suc s) ∙ h .typed .lasts;
+        busies = h .typed .busies;
+        busyFits = h .typed .busyFits;
       };
       sized = length-set (lk .next) s (getD (lk .first) freeChain 0);
       backSized = length-set (lk .back) s 0;
@@ -233,6 +254,7 @@ to-free-touch {lk} {ls} {off} {s} h =
       backed = λ q. absurd (omega arith);
       freed = λ q x o. free-back lk s (getD ls freeChain []) bl other (h .freed) x o;
       counts = λ x. omega arith;
+      marks = summary-past (lk .first) (h .marks) freeChain (suc s) (omega arith);
     }
   where
     free-back : (lk : Links) (s : ℕ) (fs : List ℕ) → s < length (lk .back) → ((x : ℕ) → On x fs → x ≢ s) → ((x : ℕ) → On x fs → getD (lk .back) x 0 ≡ 0)
@@ -263,10 +285,7 @@ off-tail-touch {lk} {ls} {off} {s} l h e =
     let ll : 0 < length (lk .last) = let q = h .typed .lasts in omega arith in
     let cnt : (x : ℕ) → count x (getD ls 0 []) ≡ count x l + hit x s = λ x. let a : count x (getD ls 0 []) ≡ count x (l ++ s ∷ []) = ap (count x) e in let b = count-append x l (s ∷ []) in omega arith in
     record {
-      typed = record {
-        firsts = length-setIfNone (getD (lk .back) s 0) (lk .first) 0 0 ∙ h .typed .firsts;
-        lasts = length-set (lk .last) 0 (getD (lk .back) s 0) ∙ h .typed .lasts;
-      };
+      typed = summed-typed (length-setIfNone (getD (lk .back) s 0) (lk .first) 0 0 ∙ h .typed .firsts) (length-set (lk .last) 0 (getD (lk .back) s 0) ∙ h .typed .lasts) marks;
       sized = length-setIfSome (getD (lk .back) s 0) (lk .next) 0;
       backSized = refl;
       first = λ d n. setIfNone-other (getD (lk .back) s 0) (lk .first) 0 0 d n;
@@ -279,7 +298,15 @@ off-tail-touch {lk} {ls} {off} {s} l h e =
       backed = λ q. bk .0;
       freed = λ q. absurd (omega arith);
       counts = λ x. let c = cnt x in omega arith;
+      marks = marks;
     }
+  where
+    go : (t : ℕ) → unmarkIfNone t (lk .busy) 0 ≡ summary (setIfNone t (lk .first) 0 0)
+    go zero = unmark-summary (lk .first) (h .marks) 0 (omega (arith, h .typed .firsts))
+    go (suc t) = h .marks
+
+    marks : offTail lk s .busy ≡ summary (offTail lk s .first)
+    marks = go (getD (lk .back) s 0)
 
 pub detach-touch : {lk : Links} {ls : List (List ℕ)} {off : List ℕ} {s : ℕ} (l : List ℕ) → Laid lk ls off → getD ls 0 [] ≡ l ++ s ∷ []
     → Touch lk (cut (eqb (getD (lk .back) s 0) 0) lk (getD (lk .back) s 0)) ls off 0 l (s ∷ off)
@@ -290,7 +317,7 @@ detach-touch {lk} {ls} {off} {s} l h e = subst (λ (x : Links). Touch lk x ls of
 pub empty-touch : {lk : Links} {ls : List (List ℕ)} (c : ℕ) → c < freeChain → Laid lk ls [] → Touch lk (emptied lk c) ls [] c [] (getD ls c [])
 unfolding emptied
 empty-touch {lk} {ls} c k h = record {
-  typed = record { firsts = length-set (lk .first) c 0 ∙ h .typed .firsts; lasts = length-set (lk .last) c 0 ∙ h .typed .lasts };
+  typed = summed-typed (length-set (lk .first) c 0 ∙ h .typed .firsts) (length-set (lk .last) c 0 ∙ h .typed .lasts) marks;
   sized = refl;
   backSized = refl;
   first = λ d n. getD-set-other (lk .first) c d 0 0 n;
@@ -302,4 +329,8 @@ empty-touch {lk} {ls} c k h = record {
   backed = λ q. tt;
   freed = λ q x o. absurd (omega arith);
   counts = λ x. omega arith;
+  marks = marks;
 }
+  where
+    marks : unmarked (lk .busy) c ≡ summary (set (lk .first) c 0)
+    marks = unmark-summary (lk .first) (h .marks) c (omega (arith, h .typed .firsts))

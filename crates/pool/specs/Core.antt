@@ -9,23 +9,27 @@ use Rattle.rule.specs.Width.{distance}
 use Rattle.keys.specs.Ordered.{width, words, ordered}
 use Rattle.pool.specs.declared.state.Head.{Head}
 use Rattle.pool.specs.declared.state.State.{State}
+use Rattle.pool.specs.Marks.{marked, unmarked}
 use Rattle.pool.specs.World.{waitingChain, freeChain, chainCount, Links, links, World, chainSet, resized, toppedAt, storeKey, keyWord0, keyWord1, slotKey, topOf, place}
 
 -- ---- one chain
 
 -- Slot i becomes the last of chain c. The first argument says whether the chain is empty.
 unfoldable pub appendedBy : Bool → Links → ℕ → ℕ → Links
+unfolding marked
 appendedBy true k c i = record {
   first = set (k .first) c (i + 1);
   last = set (k .last) c (i + 1);
   next = set (k .next) i 0;
   back = set (k .back) i (getD (k .last) c 0);
+  busy = marked (k .busy) c;
 }
 appendedBy false k c i = record {
   first = k .first;
   last = set (k .last) c (i + 1);
   next = set (set (k .next) (getD (k .last) c 0 - 1) (i + 1)) i 0;
   back = set (k .back) i (getD (k .last) c 0);
+  busy = k .busy;
 }
 
 unfoldable pub appended : Links → ℕ → ℕ → Links
@@ -34,8 +38,8 @@ appended k c i = appendedBy (eqb (getD (k .last) c 0) 0) k c i
 
 -- Slot i, the first of the free chain, leaves it. The first argument says whether there is no other, and r is the link to the next one.
 unfoldable pub unhookedBy : Bool → Links → ℕ → Links
-unhookedBy true k r = record { first = set (k .first) freeChain r; last = set (k .last) freeChain 0; next = k .next; back = k .back }
-unhookedBy false k r = record { first = set (k .first) freeChain r; last = k .last; next = k .next; back = k .back }
+unhookedBy true k r = record { first = set (k .first) freeChain r; last = set (k .last) freeChain 0; next = k .next; back = k .back; busy = k .busy }
+unhookedBy false k r = record { first = set (k .first) freeChain r; last = k .last; next = k .next; back = k .back; busy = k .busy }
 
 unfoldable pub unhooked : Links → ℕ → Links
 unfolding unhookedBy
@@ -43,8 +47,9 @@ unhooked k i = unhookedBy (eqb (getD (k .next) i 0) 0) k (getD (k .next) i 0)
 
 -- Bucket 0 now ends at the link p: where there is none, it is empty.
 unfoldable pub cut : Bool → Links → ℕ → Links
-cut true k p = links (set (k .first) 0 0) (set (k .last) 0 p) (k .next) (k .back)
-cut false k p = links (k .first) (set (k .last) 0 p) (set (k .next) (p - 1) 0) (k .back)
+unfolding unmarked
+cut true k p = links (set (k .first) 0 0) (set (k .last) 0 p) (k .next) (k .back) (unmarked (k .busy) 0)
+cut false k p = links (k .first) (set (k .last) 0 p) (set (k .next) (p - 1) 0) (k .back) (k .busy)
 
 -- a slot that was taken off a chain, and the links then
 pub record Unhooked : Type 0 where
@@ -69,11 +74,12 @@ tailUnhooked k =
 
 -- Slot i, whose link is f, goes to the front of the free chain. The first argument says whether that chain is empty.
 unfoldable pub freed : Bool → Links → ℕ → ℕ → Links
-freed true k i f = links (set (k .first) freeChain f) (set (k .last) freeChain f) (set (k .next) i (getD (k .first) freeChain 0)) (set (k .back) i 0)
-freed false k i f = links (set (k .first) freeChain f) (k .last) (set (k .next) i (getD (k .first) freeChain 0)) (set (k .back) i 0)
+freed true k i f = links (set (k .first) freeChain f) (set (k .last) freeChain f) (set (k .next) i (getD (k .first) freeChain 0)) (set (k .back) i 0) (k .busy)
+freed false k i f = links (set (k .first) freeChain f) (k .last) (set (k .next) i (getD (k .first) freeChain 0)) (set (k .back) i 0) (k .busy)
 
 unfoldable pub emptied : Links → ℕ → Links
-emptied k c = record { first = set (k .first) c 0; last = set (k .last) c 0; next = k .next; back = k .back }
+unfolding unmarked
+emptied k c = record { first = set (k .first) c 0; last = set (k .last) c 0; next = k .next; back = k .back; busy = unmarked (k .busy) c }
 
 -- ---- along a chain
 
@@ -231,7 +237,7 @@ freshFirst (suc n) = 1
 -- the free chain of 131 equal elements is set
 unfoldable pub freshLinks : ℕ → Links
 unfolding freshNext freshFirst
-freshLinks n = links (set (replicate chainCount 0) freeChain (freshFirst n)) (set (replicate chainCount 0) freeChain n) (freshNext 0 n) (replicate n 0)
+freshLinks n = links (set (replicate chainCount 0) freeChain (freshFirst n)) (set (replicate chainCount 0) freeChain n) (freshNext 0 n) (replicate n 0) (replicate 3 0)
 
 unfoldable pub freshCore : ℕ → ℕ → Bool → ℕ → ℕ → World
 unfolding freshLinks
@@ -249,4 +255,5 @@ freshState kind n topped a b = chainSet (record {
   head = record { kind = kind; len = 0; topped = topped; top0 = a; top1 = b };
   first = replicate chainCount 0;
   last = replicate chainCount 0;
+  busy = replicate 3 0;
 }) freeChain (freshFirst n) n

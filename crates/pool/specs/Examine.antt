@@ -7,6 +7,7 @@ use lib.ListN.{length, getD}
 use Rattle.rule.specs.Width.{distance}
 use Rattle.keys.specs.Ordered.{width, words}
 use Rattle.pool.specs.declared.state.Head.{Head}
+use Rattle.pool.specs.Marks.{summary, sameWords}
 use Rattle.pool.specs.World.{freeChain, Links, World, size, keyWord0, keyWord1, slotKey, topOf, place, within}
 use Rattle.pool.specs.Sound.{limit}
 
@@ -73,7 +74,12 @@ scan h k keys zero c left = left
 scan h k keys (suc m) c zero = 0
 scan h k keys (suc m) c (suc left) = scan h k keys m (suc c) (verifyBusy h k keys c left)
 
--- after the scan of the other chains: the free chain
+-- every chain but the free one, and the busy words, which are to sum up the first links
+unfoldable pub scanned : Head → Links → List ℕ → ℕ
+unfolding scan summary sameWords
+scanned h k keys = let r = scan h k keys freeChain 0 (suc (length (k .next))) in gate (sameWords (summary (k .first)) (k .busy)) r
+
+-- after them: the free chain
 unfoldable pub finish : World → ℕ → ℕ
 unfolding okFree verify
 finish w zero = 2
@@ -84,8 +90,8 @@ finish w (suc left) = elim (eqb (left + w .head .len) (size w)
     ]
 
 unfoldable pub examined : World → ℕ
-unfolding fitting headed finish scan
+unfolding fitting headed finish scanned
 examined w = elim (fitting w) [
   | false ↦ 1
-  | true ↦ elim (headed (w .head)) [ false ↦ 2 | true ↦ finish w (scan (w .head) (w .links) (w .keys) freeChain 0 (suc (size w))) ]
+  | true ↦ elim (headed (w .head)) [ false ↦ 2 | true ↦ finish w (scanned (w .head) (w .links) (w .keys)) ]
 ]

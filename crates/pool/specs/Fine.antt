@@ -5,13 +5,14 @@ use Prim.Native.Nat.{ℕ, _+_, _*_, _^_, _≤_, _<_}
 use lib.ListN.{length, getD}
 use Rattle.pool.specs.declared.state.Head.{Head}
 use Rattle.pool.specs.Sound.{limit}
+use Rattle.pool.specs.Marks.{summary}
 use Rattle.pool.specs.World.{chainCount, Links}
 
 -- every element is at most n
 pub record Under (n : ℕ) (xs : List ℕ) : Type 0 where
   pub at : (k : ℕ) → getD xs k 0 ≤ n
 
--- lengths, and each link is one of n slots or none
+-- lengths, each link is one of n slots or none, and the busy words sum up the first links
 pub record FineAt (n : ℕ) (k : Links) : Type 0 where
   pub small : n < 2 ^ 32
   pub firsts : length (k .first) ≡ chainCount
@@ -22,6 +23,7 @@ pub record FineAt (n : ℕ) (k : Links) : Type 0 where
   pub last : Under n (k .last)
   pub next : Under n (k .next)
   pub back : Under n (k .back)
+  pub marks : k .busy ≡ summary (k .first)
 
 abbrev pub Fine : Links → Type 0
 Fine k = FineAt (length (k .next)) k

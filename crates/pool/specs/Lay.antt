@@ -8,6 +8,7 @@ use lib.ListN.{getD, take, replicate}
 use Rattle.rule.specs.Rule.{Heap, empty}
 use Rattle.keys.specs.Ordered.{words}
 use Rattle.pool.specs.Chain.{tab, lastFrom}
+use Rattle.pool.specs.Marks.{summary}
 use Rattle.pool.specs.declared.state.Head.{Head}
 use Rattle.pool.specs.World.{waitingChain, freeChain, Links, World, toppedAt, word0, word1, keyAt, topKey, chains}
 
@@ -59,13 +60,15 @@ backIn s [] = 0
 backIn s (l ∷ ls) = before 0 s l + backIn s ls
 
 -- The links of these 131 chains of n slots: "next links run from first to last and end in 0;
--- back links run the other way, but are 0 on the free chain; an empty chain has first and last 0".
+-- back links run the other way, but are 0 on the free chain; an empty chain has first and last 0";
+-- and the summary of the busy ones among the buckets.
 unfoldable pub lay : List (List ℕ) → ℕ → Links
 lay ls n = record {
   first = map firstIn ls;
   last = map (lastFrom 0) ls;
   next = tab (λ s. nextIn s ls) 0 n;
   back = tab (λ s. backIn s (take freeChain ls)) 0 n;
+  busy = summary (map firstIn ls);
 }
 
 -- ---- the fresh world, and the head after a constrain

@@ -1,11 +1,12 @@
 -- When a world is fit and sound: document 01, "The pool and the state".
 use mathlib.Core.Path.{_≡_}
-use mathlib.Core.Logic.{_≢_}
+use mathlib.Core.Logic.{_≢_, _↔_}
 use mathlib.Core.Bool.{true, false}
 use mathlib.Core.List.{[]}
-use Prim.Native.Nat.{ℕ, _*_, _≤_, _<_}
+use Prim.Native.Nat.{ℕ, _*_, _^_, _≤_, _<_}
 use lib.ListN.{length, getD}
 use Rattle.rule.specs.Lists.{join}
+use Rattle.pool.specs.Marks.{bitAt}
 use Rattle.pool.specs.Chain.{count, Linked, Backed, lastFrom, On}
 use Rattle.keys.specs.Ordered.{words}
 use Rattle.pool.specs.World.{waitingChain, freeChain, chainCount, Links, World, size, firstOf, lastOf, chain, chains, busyChains, word0, word1, keyAt, topKey, distanceAt}
@@ -15,6 +16,8 @@ use Rattle.pool.specs.World.{waitingChain, freeChain, chainCount, Links,
 pub record Typed (k : Links) : Type 0 where
   pub firsts : length (k .first) ≡ chainCount
   pub lasts : length (k .last) ≡ chainCount
+  pub busies : length (k .busy) ≡ 3
+  pub busyFits : (j : ℕ) → getD (k .busy) j 0 < 2 ^ 64
 
 -- ---- code 1: "kind not 1 to 4, slice lengths unfit, n above 4,096"
 
@@ -44,6 +47,9 @@ pub record Sound (w : World) : Type 0 where
   -- an empty chain has first and last 0
   pub noFirst : (c : ℕ) → c < chainCount → chain w c ≡ [] → firstOf w c ≡ 0
   pub noLast : (c : ℕ) → c < chainCount → chain w c ≡ [] → lastOf w c ≡ 0
+  -- bit b of the busy words is "set exactly when the bucket isn't empty, bits above 128 zero"
+  pub busyBits : (b : ℕ) → b < waitingChain → (bitAt (w .links .busy) b ≡ 1) ↔ (chain w b ≢ [])
+  pub busyRest : (b : ℕ) → waitingChain ≤ b → bitAt (w .links .busy) b ≡ 0
   -- length counts the slots outside the free chain
   pub counted : w .head .len ≡ length (join (busyChains w))
   -- with no top, the buckets are empty and both top words are 0

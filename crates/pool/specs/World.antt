@@ -21,15 +21,17 @@ freeChain = 130
 abbrev pub chainCount : ℕ
 chainCount = 131
 
--- "the first and last link of each of 131 chains", "n u32 next links, n u32 back links"; "a link is 0 for none, else slot number plus one"
+-- "the first and last link of each of 131 chains", "n u32 next links, n u32 back links"; "a link is 0 for none, else slot number plus one";
+-- and the three busy words, which stand with the links because every store of a bucket's first link keeps them
 pub record Links : Type 0 where
   pub first : List ℕ
   pub last : List ℕ
   pub next : List ℕ
   pub back : List ℕ
+  pub busy : List ℕ
 
-abbrev pub links : List ℕ → List ℕ → List ℕ → List ℕ → Links
-links f l n b = record { first = f; last = l; next = n; back = b }
+abbrev pub links : List ℕ → List ℕ → List ℕ → List ℕ → List ℕ → Links
+links f l n b w = record { first = f; last = l; next = n; back = b; busy = w }
 
 -- "kind, length, top (present or not, two words)": Head is the struct of the code
 -- the same with another length, and with the top at these key words
@@ -39,7 +41,7 @@ resized h n = record { kind = h .kind; len = n; topped = h .topped; top0 = h .to
 abbrev pub toppedAt : Head → ℕ → ℕ → Head
 toppedAt h a b = record { kind = h .kind; len = h .len; topped = true; top0 = a; top1 = b }
 
--- the state (head, first and last links) and the pool (keys, values, next and back links)
+-- the state (head, first and last links, busy words) and the pool (keys, values, next and back links)
 pub record World : Type 0 where
   pub head : Head
   pub links : Links
@@ -50,23 +52,23 @@ abbrev pub world : Head → Links → List ℕ → List ℕ → World
 world h k keys values = record { head = h; links = k; keys = keys; values = values }
 
 abbrev pub worldOf : State → List ℕ → List ℕ → List ℕ → List ℕ → World
-worldOf s keys values next back = record { head = s .head; links = links (s .first) (s .last) next back; keys = keys; values = values }
+worldOf s keys values next back = record { head = s .head; links = links (s .first) (s .last) next back (s .busy); keys = keys; values = values }
 
 -- the state with other ends of one chain
 unfoldable pub chainSet : State → ℕ → ℕ → ℕ → State
-chainSet s c f l = record { head = s .head; first = set (s .first) c f; last = set (s .last) c l }
+chainSet s c f l = record { head = s .head; first = set (s .first) c f; last = set (s .last) c l; busy = s .busy }
 
 -- the state that is all zero but for the kind, over a pool; "A refused fresh returns a state all zero (kind 0)."
 unfoldable pub blank : ℕ → List ℕ → List ℕ → List ℕ → List ℕ → World
 blank kind keys values next back = record {
   head = record { kind = kind; len = 0; topped = false; top0 = 0; top1 = 0 };
-  links = record { first = replicate chainCount 0; last = replicate chainCount 0; next = next; back = back };
+  links = record { first = replicate chainCount 0; last = replicate chainCount 0; next = next; back = back; busy = replicate 3 0 };
   keys = keys;
   values = values;
 }
 
 unfoldable pub noState : State
-noState = record { head = record { kind = 0; len = 0; topped = false; top0 = 0; top1 = 0 }; first = replicate chainCount 0; last = replicate chainCount 0 }
+noState = record { head = record { kind = 0; len = 0; topped = false; top0 = 0; top1 = 0 }; first = replicate chainCount 0; last = replicate chainCount 0; busy = replicate 3 0 }
 
 -- ---- keys
 

@@ -3,6 +3,7 @@ use crate::against::slot_above_slot;
 use crate::against::slot_distance;
 use crate::chain::append;
 use crate::keywords::key0;
+use crate::summary::unmark;
 ghost use mathlib.Core.Path.{_≡_};
 ghost use Prim.Native.Nat.{_<_, _≤_};
 ghost use lib.ListN.{length};
@@ -44,6 +45,7 @@ pub fn greatest(kind: u32, keys: &[u64], next: &[u32], start: u32) -> u32
 pub fn spread(
     first: &mut [u32; 131],
     last: &mut [u32; 131],
+    busy: &mut [u64; 3],
     keys: &[u64],
     next: &mut [u32],
     back: &mut [u32],
@@ -52,13 +54,14 @@ pub fn spread(
     top0: u64,
     top1: u64,
 ) -> u32
-    requires { ⌜ Fine (links (now first) (now last) (now next) (now back)) ⌝ }
+    requires { ⌜ Fine (links (now first) (now last) (now next) (now back) (now busy)) ⌝ }
     requires { ⌜ Room kind (length (now next)) (now keys) ⌝ }
     requires { ⌜ chain < 131 ⌝ }
-    ensures { λ r. ⌜ drained (links (now (first .exit)) (now (last .exit)) (now (next .exit)) (now (back .exit))) r ≡ drainChain kind (now (keys .entry)) (ordered kind top0 top1) chain (links (now (first .entry)) (now (last .entry)) (now (next .entry)) (now (back .entry))) ⌝ }
+    ensures { λ r. ⌜ drained (links (now (first .exit)) (now (last .exit)) (now (next .exit)) (now (back .exit)) (now (busy .exit))) r ≡ drainChain kind (now (keys .entry)) (ordered kind top0 top1) chain (links (now (first .entry)) (now (last .entry)) (now (next .entry)) (now (back .entry)) (now (busy .entry))) ⌝ }
 {
     let n = next.len();
     let mut at = first[chain];
+    unmark(busy, chain);
     first[chain] = 0;
     last[chain] = 0;
     let mut moves: u32 = 0;
@@ -70,7 +73,7 @@ pub fn spread(
         let i = slot as usize;
         at = next[i];
         let d = slot_distance(kind, keys, i, top0, top1);
-        append(first, last, next, back, d as usize, slot);
+        append(first, last, busy, next, back, d as usize, slot);
         moves += 1;
     }
     moves

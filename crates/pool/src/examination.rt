@@ -12,13 +12,15 @@ use crate::state::State;
 use crate::state::UNFIT;
 use crate::state::UNSOUND;
 use crate::state::WAITING;
+use crate::summary::mark;
+use crate::summary::same_words;
 ghost use mathlib.Core.Path.{_≡_};
 ghost use mathlib.Core.List.{List};
-ghost use Prim.Native.Nat.{ℕ, suc, _<_, _≤_};
+ghost use Prim.Native.Nat.{ℕ, _<_, _≤_};
 ghost use lib.ListN.{length};
-ghost use Rattle.pool.specs.World.{freeChain, links, worldOf};
+ghost use Rattle.pool.specs.World.{links, worldOf};
 ghost use Rattle.pool.specs.Fine.{Room, Holds};
-ghost use Rattle.pool.specs.Examine.{fits as fitsTest, headed, standsAt, emptyAt, okBusy, okFree, verify, scan, examined};
+ghost use Rattle.pool.specs.Examine.{fits as fitsTest, headed, standsAt, emptyAt, okBusy, okFree, verify, scanned, examined};
 
 // Kind 1 to 4, slices that fit each other, no more slots than the limit.
 pub fn fits(kind: u32, keys: usize, values: usize, next: usize, back: usize) -> bool
@@ -117,7 +119,7 @@ fn walk_busy(
     requires { ⌜ Room (head .kind) (length (now next)) (now keys) ⌝ }
     requires { ⌜ length (now back) ≡ length (now next) ⌝ }
     requires { ⌜ budget ≤ length (now next) ⌝ }
-    ensures { λ r. ⌜ ((first last : List ℕ) → r ≡ verify (okBusy head (links first last (now (next .entry)) (now (back .entry))) (now (keys .entry)) chain) (now (next .entry)) end budget 0 start) ⌝ }
+    ensures { λ r. ⌜ ((first last busy : List ℕ) → r ≡ verify (okBusy head (links first last (now (next .entry)) (now (back .entry)) busy) (now (keys .entry)) chain) (now (next .entry)) end budget 0 start) ⌝ }
 {
     let mut left = budget;
     let mut before: u32 = 0;
@@ -161,7 +163,7 @@ fn walk_free(
     requires { ⌜ length (now values) ≡ length (now next) ⌝ }
     requires { ⌜ length (now back) ≡ length (now next) ⌝ }
     requires { ⌜ budget ≤ length (now next) ⌝ }
-    ensures { λ r. ⌜ ((first last : List ℕ) → r ≡ verify (okFree kind (links first last (now (next .entry)) (now (back .entry))) (now (keys .entry)) (now (values .entry))) (now (next .entry)) end budget 0 start) ⌝ }
+    ensures { λ r. ⌜ ((first last busy : List ℕ) → r ≡ verify (okFree kind (links first last (now (next .entry)) (now (back .entry)) busy) (now (keys .entry)) (now (values .entry))) (now (next .entry)) end budget 0 start) ⌝ }
 {
     let mut left = budget;
     let mut before: u32 = 0;
@@ -191,20 +193,23 @@ fn walk_free(
 }
 
 // Walks every chain but the free one. None may end where the free chain ends: two chains that share
-// a slot share their last one. Gives as the walks do.
+// a slot share their last one. The busy words must be those of the chains that were walked. Gives as
+// the walks do.
 fn walk_all(
     head: Head,
     first: &[u32; 131],
     last: &[u32; 131],
+    busy: &[u64; 3],
     keys: &[u64],
     next: &[u32],
     back: &[u32],
 ) -> usize
     requires { ⌜ Room (head .kind) (length (now next)) (now keys) ⌝ }
     requires { ⌜ length (now back) ≡ length (now next) ⌝ }
-    ensures { λ r. ⌜ r ≡ scan head (links (now (first .entry)) (now (last .entry)) (now (next .entry)) (now (back .entry))) (now (keys .entry)) freeChain 0 (suc (length (now (next .entry)))) ⌝ }
+    ensures { λ r. ⌜ r ≡ scanned head (links (now (first .entry)) (now (last .entry)) (now (next .entry)) (now (back .entry)) (now (busy .entry))) (now (keys .entry)) ⌝ }
 {
     let mut left = next.len() + 1;
+    let mut seen: [u64; 3] = [0; 3];
     let mut c: usize = 0;
     while c < FREE {
         if left == 0 {
@@ -215,9 +220,13 @@ fn walk_all(
             if end == last[FREE] {
                 return 0;
             }
+            mark(&mut seen, c);
         }
         left = walk_busy(head, keys, next, back, c, first[c], end, left - 1);
         c += 1;
+    }
+    if !same_words(&seen, busy) {
+        return 0;
     }
     left
 }
@@ -235,7 +244,8 @@ pub fn examine(state: State, keys: &[u64], values: &[u64], next: &[u32], back: &
     }
     let first = state.first;
     let last = state.last;
-    let left = walk_all(head, &first, &last, keys, next, back);
+    let busy = state.busy;
+    let left = walk_all(head, &first, &last, &busy, keys, next, back);
     if left == 0 {
         return UNSOUND;
     }

@@ -70,6 +70,7 @@ pub fn fresh_state(kind: u32, n: u32, topped: bool, top0: u64, top1: u64) -> Sta
         head,
         first: [0; 131],
         last: [0; 131],
+        busy: [0; 3],
     };
     let first = if n == 0 { 0 } else { 1 };
     blank.with_chain(FREE, first, n)

@@ -2,7 +2,8 @@
 //
 // `examine` is public and takes any state and any slices: it has no `requires`. The other functions
 // are the core's; only the crates above call them, after an examination. They ask for bounds (lengths,
-// every link at most n) and never that a pool is sound: along the links each loop ends by a budget.
+// every link at most n) and for busy words that sum up the first links, and never that a pool is sound:
+// along the links each loop ends by a budget.
 mod against;
 mod along;
 mod chain;
@@ -10,6 +11,7 @@ mod examination;
 mod fresh;
 mod keywords;
 mod state;
+mod summary;
 
 pub use along::busy;
 pub use along::greatest;

@@ -57,14 +57,17 @@ impl Head {
 }
 
 // A link is 0 for none, else a slot's number plus one. `first` and `last` have one of each chain.
+// Bit b of the three words of `busy` is set exactly when bucket b is not empty.
 pub struct State {
     pub head: Head,
     pub first: [u32; 131],
     pub last: [u32; 131],
+    pub busy: [u64; 3],
 }
 
 impl State {
-    // The state with other ends of one chain.
+    // The state with other ends of one chain. The busy words are not its affair, nor are the links
+    // between the ends.
     pub fn with_chain(self, chain: usize, first: u32, last: u32) -> State
         ensures { λ r. ⌜ r ≡ chainSet self chain first last ⌝ }
     {

@@ -1,9 +1,9 @@
 -- Document 01's starred examples, 1 to 10, as rows of one table, computed by the public calls' definitions: the fresh calls, the
--- examinations, the calls themselves.
+-- examinations, the calls themselves; and what later requests added to them.
 use mathlib.Core.Path.{_≡_, refl}
 use mathlib.Core.Bool.{Bool, true, false, _&&_}
 use mathlib.Core.List.{List, [], _∷_, _++_, map}
-use Prim.Native.Nat.{ℕ, zero, suc, _-_, _*_, _^_}
+use Prim.Native.Nat.{ℕ, zero, suc, _+_, _-_, _*_, _^_}
 use lib.Dec.{eqb}
 use lib.ListN.{replicate}
 use Rattle.rule.specs.Lists.{sum}
@@ -13,8 +13,9 @@ use Rattle.rule.specs.Rule.{bucketCount, empty, held, put, busy, stay, takeTail
 use Rattle.rule.specs.Ledger.{pushed as noting, moved, bound, opened, everyone, noted, leaving, entered, recordCall, bookAfter}
 use Rattle.keys.specs.Ordered.{width, words, ordered, wellFormed}
 use Rattle.pool.specs.World.{blank, World, storeKey, keyWord0, keyWord1, place, within, chains, busyChains}
+use Rattle.pool.specs.Marks.{flag, bits, summary, sameWords}
 use Rattle.pool.specs.Sound.{limit}
-use Rattle.pool.specs.Examine.{standsAt, emptyAt, fits, examined, fitting, headed, finish, scan, verifyBusy, apart, verify, okBusy, okFree}
+use Rattle.pool.specs.Examine.{standsAt, emptyAt, fits, examined, fitting, headed, scanned, finish, scan, verifyBusy, apart, verify, okBusy, okFree}
 use Rattle.pool.specs.Lay.{topIn, heapIn, heap, withFree, firstIn, after, before, nextIn, backIn, lay, fresh, leading, headAfter}
 use Rattle.engine.specs.Outcome.{refused, done, given, unless, checked}
 use Rattle.heap.specs.Calls.{pushInto, push, constrain, popOut, pop, clear, clearTo, top, len, pushed, popped, constrained, cleared, clearedTo, topRead, lenRead, made, madeAt}
@@ -36,6 +37,12 @@ shown w [] = []
 shown w (c ∷ cs) =
     let o = outcome w c in
     (o .code ∷ o .moves ∷ o .key0 ∷ o .key1 ∷ o .value ∷ []) ∷ shown (o .world) cs
+
+-- the busy words after each call
+marks : World → List Ask → List (List ℕ)
+unfolding outcome
+marks w [] = []
+marks w (c ∷ cs) = let o = outcome w c in o .world .links .busy ∷ marks (o .world) cs
 
 abbrev key : ℕ → Ask
 key k = AskPush k 0 0
@@ -90,8 +97,18 @@ least = 2 ^ 63
 abbrev apartBy : ℕ → ℕ → ℕ → ℕ → ℕ
 apartBy a b c d = distance (width 4) (ordered 4 a b) (ordered 4 c d)
 
+abbrev pair : ℕ → ℕ → Ask
+pair a b = AskPush a b 0
+
+-- 2 ^ 63, and 2 ^ 62 besides
+abbrev high : ℕ
+high = 2 ^ 63
+
+abbrev both : ℕ
+both = 2 ^ 63 + 2 ^ 62
+
 table : List Row
-unfolding shown nine
+unfolding shown marks nine
 table =
     -- 1: nine pops give that order, ..
     row (calls 1 16 nine)
@@ -122,6 +139,12 @@ table =
     (ok ∷ ok ∷ moves 2 ∷ tells 9 ∷ no 6 ∷ moves 0 ∷ [])
     -- 10
     ∷ row (calls 1 0 (key 5 ∷ AskPop ∷ [])) (no 7 ∷ no 8 ∷ [])
+    -- M-104: "bit set exactly when the bucket isn't empty", while 3 stands behind 7 and 7 behind 9
+    ∷ row (marks (begun (lent 1 16) New) (key 3 ∷ key 9 ∷ key 7 ∷ AskConstrain ∷ pops 3))
+    (replicate 3 (0 ∷ 0 ∷ 0 ∷ []) ++ (17 ∷ 0 ∷ 0 ∷ []) ∷ (16 ∷ 0 ∷ 0 ∷ []) ∷ (8 ∷ 0 ∷ 0 ∷ []) ∷ (0 ∷ 0 ∷ 0 ∷ []) ∷ [])
+    -- and with pairs in buckets 63, 64, 127 and 128: the ends of the words
+    ∷ row (marks (begun (lent 4 4) (NewAt both both)) (pair both high ∷ pair both 1 ∷ pair high 7 ∷ pair 1 7 ∷ AskClear ∷ []))
+    ((high ∷ 0 ∷ 0 ∷ []) ∷ (high ∷ 1 ∷ 0 ∷ []) ∷ (high ∷ (high + 1) ∷ 0 ∷ []) ∷ (high ∷ (high + 1) ∷ 1 ∷ []) ∷ (0 ∷ 0 ∷ 0 ∷ []) ∷ [])
     ∷ []
 
 -- ---- compared number by number
@@ -145,5 +168,5 @@ hold [] = true
 hold (r ∷ rs) = alike (r .shows) (r .says) && hold rs
 
 examples : hold table ≡ true
-unfolding same alike hold table shown nine started startTop made madeAt blank outcome movesFrom pushed popped constrained cleared clearedTo topRead lenRead checked unless examined fitting headed finish scan verifyBusy apart verify standsAt emptyAt okBusy okFree fits limit push pushInto pop popOut constrain headAfter leading clear clearTo top len refused done given fresh heap heapIn topIn withFree lay firstIn after before nextIn backIn chains busyChains width words ordered wellFormed storeKey keyWord0 keyWord1 place within distance zeros empty bucketCount held put busy stay takeTail greatest spread drain drainSome drainBucket ruleConstrain rulePush rulePop served serve refusal taking noting moved bound opened everyone noted leaving entered recordCall bookAfter unlessMalformed callOf ahead callsOf
+unfolding same alike hold table shown marks nine started startTop made madeAt blank outcome movesFrom pushed popped constrained cleared clearedTo topRead lenRead checked unless examined fitting headed scanned sameWords flag bits summary finish scan verifyBusy apart verify standsAt emptyAt okBusy okFree fits limit push pushInto pop popOut constrain headAfter leading clear clearTo top len refused done given fresh heap heapIn topIn withFree lay firstIn after before nextIn backIn chains busyChains width words ordered wellFormed storeKey keyWord0 keyWord1 place within distance zeros empty bucketCount held put busy stay takeTail greatest spread drain drainSome drainBucket ruleConstrain rulePush rulePop served serve refusal taking noting moved bound opened everyone noted leaving entered recordCall bookAfter unlessMalformed callOf ahead callsOf
 examples = refl

@@ -9,6 +9,7 @@ use Rattle.pool.specs.Sound.{Whole}
 use Rattle.pool.specs.Examine.{examined}
 use Rattle.heap.proofs.CodeChecked.{passed-whole}
 use Rattle.batch.specs.Batch.{records}
+use Rattle.pool.proofs.CodeState.{state-typed}
 use Rattle.batch.proofs.CodeRuns.{code-stopped, code-ragged, code-short, code-done, batch-done, batch-stopped}
 use Rattle.batch.proofs.runs.run.Statement.{statement}
 use Rattle.batch.proofs.runs.run.Tie as tie
@@ -54,7 +55,7 @@ passed : (c : tie.Else1) → let x = c .before .before .before .before .before .
 passed c = sym (c .before .examine .ensures) ∙ c .if1 .left
 
 whole : (c : tie.Else1) → let x = c .before .before .before .before .before .before .before .before .before .before .before .before .args in Whole (worldOf (x .state) (x .keys .now) (x .values .now) (x .next .now) (x .back .now))
-whole c = passed-whole _ _ (c .before .examine .ensures) (record { firsts = search needs; lasts = search needs }) (c .if1 .left)
+whole c = passed-whole _ _ (c .before .examine .ensures) (state-typed _ (search needs) (search needs) (search needs) (λ j. search needs)) (c .if1 .left)
 
 returns-2 : tie.Need-returns-2
 returns-2 c = batch-stopped _ _ _ _ _ _ _ 3 (code-ragged _ _ _ (passed (c .before .before)) (c .before .if2 .taken)) (λ z. omega arith) (c .refused2 .ensures)
@@ -82,7 +83,7 @@ room : (c : tie.Else3) → let x = c .before .before .before .before .before .be
 room c = omega (arith, c .if3 .left)
 
 serve-all-requires : tie.Need-serve-all-requires
-serve-all-requires c κs = (whole (c .before .before .before .before .before .before .before .before .before .before .before), (omega arith, room (c .before .before .before .before .before .before .before .before .before)))
+serve-all-requires c κs = (whole (c .before .before .before .before .before .before .before .before .before .before .before .before .before), (omega arith, room (c .before .before .before .before .before .before .before .before .before .before .before)))
 
 same-length-13 : tie.Need-same-length-13
 same-length-13 c = search needs
@@ -101,7 +102,7 @@ same-length-17 c = search needs
 
 returns-4 : tie.Need-returns-4
 returns-4 c =
-    let d = c .before .before .before .before .before .before .before .before .before .before .before .before .before .before .before .before .before .before .before .before in
+    let d = c .before .before .before .before .before .before .before .before .before .before .before .before .before .before .before .before .before .before .before .before .before .before in
     batch-done _ _ _ (code-done _ _ _ (passed (d .before .before)) (d .before .if2 .left) (d .if3 .left)) (room d) (c .before .before .before .before .before .before .before .before .before .before .serve-all .ensures)
 
 pub run-spec : {M : Type 1} → statement M

@@ -11,11 +11,11 @@ use Rattle.batch.proofs.runs.serve_all.Statement.{statement}
 use Rattle.batch.proofs.runs.serve_all.Tie as tie
 
 abbrev Inv-loop : tie.InvT-loop
-Inv-loop first₀ last₀ keys₀ values₀ next₀ back₀ records answers₀ n h₀ i₀ first last keys values next back answers h i =
-    Turn n records (world h₀ (links first₀ last₀ next₀ back₀) keys₀ values₀) answers₀ (world h (links first last next back) keys values) answers i
+Inv-loop first₀ last₀ busy₀ keys₀ values₀ next₀ back₀ records answers₀ n h₀ i₀ first last busy keys values next back answers h i =
+    Turn n records (world h₀ (links first₀ last₀ next₀ back₀ busy₀) keys₀ values₀) answers₀ (world h (links first last next back busy) keys values) answers i
 
 abbrev μ-loop : tie.MeasureT-loop
-μ-loop first₀ last₀ keys₀ values₀ next₀ back₀ records answers₀ n h₀ i₀ first last keys values next back answers h i =
+μ-loop first₀ last₀ busy₀ keys₀ values₀ next₀ back₀ records answers₀ n h₀ i₀ first last busy keys values next back answers h i =
     n - i
 
 -- record i has its 40 bytes
@@ -32,37 +32,37 @@ read-requires : tie.Need-read-requires Inv-loop μ-loop
 read-requires c κs = search needs
 
 serve-requires : tie.Need-serve-requires Inv-loop μ-loop
-serve-requires c κs = whole-ready (c .before .before .before .before .before .before .before .before .loop .inv .whole)
+serve-requires c κs = whole-ready (c .before .before .before .before .before .before .before .before .before .loop .inv .whole)
 
 anew-requires : tie.Need-anew-requires Inv-loop μ-loop
 anew-requires c κs = search needs
 
 mul-write : tie.Need-mul-write Inv-loop μ-loop
-mul-write c = record { fits = omega (arith, room (c .before .before .before .before .before .before .before .before .before .before .before .before .before .before .before .before .before .before) .1) }
+mul-write c = record { fits = omega (arith, room (c .before .before .before .before .before .before .before .before .before .before .before .before .before .before .before .before .before .before .before) .1) }
 
 sub-write : tie.Need-sub-write Inv-loop μ-loop
-sub-write c = omega (arith, room (c .before .before .before .before .before .before .before .before .before .before .before .before .before .before .before .before .before .before) .0)
+sub-write c = omega (arith, room (c .before .before .before .before .before .before .before .before .before .before .before .before .before .before .before .before .before .before .before) .0)
 
 part-write-start : tie.Need-part-write-start Inv-loop μ-loop
-part-write-start c = omega (arith, room (c .before .before .before .before .before .before .before .before .before .before .before .before .before .before .before .before .before .before) .0)
+part-write-start c = omega (arith, room (c .before .before .before .before .before .before .before .before .before .before .before .before .before .before .before .before .before .before .before) .0)
 
 part-write-end : tie.Need-part-write-end Inv-loop μ-loop
 part-write-end c = search needs
 
 write-requires : tie.Need-write-requires Inv-loop μ-loop
-write-requires c κs = simp (length-take, length-drop) (omega (arith, room (c .before .before .before .before .before .before .before .before .before .before .before .before .before .before .before .before .before .before .before) .0))
+write-requires c κs = simp (length-take, length-drop) (omega (arith, room (c .before .before .before .before .before .before .before .before .before .before .before .before .before .before .before .before .before .before .before .before) .0))
 
 add-i : tie.Need-add-i Inv-loop μ-loop
-add-i c = record { fits = omega (arith, room (c .before .before .before .before .before .before .before .before .before .before .before .before .before .before .before .before .before .before .before .before .before .before) .1) }
+add-i c = record { fits = omega (arith, room (c .before .before .before .before .before .before .before .before .before .before .before .before .before .before .before .before .before .before .before .before .before .before .before) .1) }
 
 loop-less : tie.Need-loop-less Inv-loop μ-loop
-loop-less c = search needs
+loop-less c = omega (arith, c .before .before .before .before .before .before .before .before .before .before .before .before .before .before .before .before .before .before .before .before .before .before .before .loop-test .taken)
 
 loop-again : tie.Need-loop-again Inv-loop μ-loop
 loop-again c =
-    let l = c .before .before .before .before .before .before .before .before .before .before .before .before .before .before .before .before .before .before .before .before .before .before in
+    let l = c .before .before .before .before .before .before .before .before .before .before .before .before .before .before .before .before .before .before .before .before .before .before .before in
     turn-next (l .before .loop .inv) (l .loop-test .taken) (l .before .before .before .before .before .before .before .before .pre .1 .1)
-    (c .before .before .before .before .before .before .before .before .before .before .before .before .before .before .before .before .before .before .before .before .before .read .ensures) (served-anew (c .before .before .before .before .anew .ensures) (c .before .before .before .before .before .before .before .before .before .before .before .before .before .before .serve .ensures)) (c .before .before .write .ensures)
+    (c .before .before .before .before .before .before .before .before .before .before .before .before .before .before .before .before .before .before .before .before .before .before .read .ensures) (served-anew (c .before .before .before .before .anew .ensures) (c .before .before .before .before .before .before .before .before .before .before .before .before .before .before .serve .ensures)) (c .before .before .write .ensures)
 
 same-length : tie.Need-same-length Inv-loop μ-loop
 same-length c = search needs

@@ -5,7 +5,7 @@ use Rattle.batch.proofs.serving.clear.Statement.{statement}
 use Rattle.batch.proofs.serving.clear.Tie as tie
 
 reset-requires : tie.Need-reset-requires
-reset-requires c κs = ready-pooled (c .before .before .before .before .before .before .before .before .before .before .pre)
+reset-requires c κs = ready-pooled (c .before .before .before .before .before .before .before .before .before .before .before .pre)
 
 bare-requires : tie.Need-bare-requires
 bare-requires c κs = search needs

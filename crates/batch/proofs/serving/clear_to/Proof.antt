@@ -16,7 +16,7 @@ returns : tie.Need-returns
 returns c = told-replied (c .bare .ensures) (clearTo-malformed _ _ _ (sym (c .before .before .well-formed .ensures) ∙ not-true _ (c .before .if1 .taken)))
 
 reset-requires : tie.Need-reset-requires
-reset-requires c κs = ready-pooled (c .before .before .before .before .before .before .before .before .before .before .before .before .pre)
+reset-requires c κs = ready-pooled (c .before .before .before .before .before .before .before .before .before .before .before .before .before .pre)
 
 bare-requires-2 : tie.Need-bare-requires-2
 bare-requires-2 c κs = search needs
@@ -34,7 +34,7 @@ same-length-4 : tie.Need-same-length-4
 same-length-4 c = search needs
 
 returns-2 : tie.Need-returns-2
-returns-2 c = told-replied (c .bare2 .ensures) (clearTo-fresh _ _ _ (sym (c .before .before .before .before .before .before .before .before .before .before .before .before .before .before .before .before .before .well-formed .ensures) ∙ not-false _ (c .before .before .before .before .before .before .before .before .before .before .before .before .before .before .before .before .if1 .left)) (c .before .before .before .before .before .before .before .before .before .reset .ensures))
+returns-2 c = told-replied (c .bare2 .ensures) (clearTo-fresh _ _ _ (sym (c .before .before .before .before .before .before .before .before .before .before .before .before .before .before .before .before .before .before .well-formed .ensures) ∙ not-false _ (c .before .before .before .before .before .before .before .before .before .before .before .before .before .before .before .before .before .if1 .left)) (c .before .before .before .before .before .before .before .before .before .reset .ensures))
 
 pub clear-to-spec : {M : Type 1} → statement M
 clear-to-spec =

@@ -20,7 +20,7 @@ same-length-4 : tie.Need-same-length-4
 same-length-4 c = search needs
 
 returns : tie.Need-returns
-returns c = op-push _ _ (c .before .before .before .before .before .before .before .before .before .before .before .before .before .before .before .if1 .taken) (c .before .before .before .before .before .before .before .before .push .ensures)
+returns c = op-push _ _ (c .before .before .before .before .before .before .before .before .before .before .before .before .before .before .before .before .if1 .taken) (c .before .before .before .before .before .before .before .before .push .ensures)
 
 pop-requires : tie.Need-pop-requires
 pop-requires c κs = search needs
@@ -38,7 +38,7 @@ same-length-8 : tie.Need-same-length-8
 same-length-8 c = search needs
 
 returns-2 : tie.Need-returns-2
-returns-2 c = op-pop _ _ (c .before .before .before .before .before .before .before .before .before .before .before .before .before .before .before .if2 .taken) (c .before .before .before .before .before .before .before .before .pop .ensures)
+returns-2 c = op-pop _ _ (c .before .before .before .before .before .before .before .before .before .before .before .before .before .before .before .before .if2 .taken) (c .before .before .before .before .before .before .before .before .pop .ensures)
 
 constrain-requires : tie.Need-constrain-requires
 constrain-requires c κs = search needs
@@ -56,7 +56,7 @@ same-length-11 : tie.Need-same-length-11
 same-length-11 c = search needs
 
 returns-3 : tie.Need-returns-3
-returns-3 c = told-replied (c .bare .ensures) (op-constrain _ _ (c .before .before .before .before .before .before .before .before .before .before .before .before .if3 .taken) (c .before .before .before .before .before .before .constrain .ensures))
+returns-3 c = told-replied (c .bare .ensures) (op-constrain _ _ (c .before .before .before .before .before .before .before .before .before .before .before .before .before .if3 .taken) (c .before .before .before .before .before .before .constrain .ensures))
 
 clear-requires : tie.Need-clear-requires
 clear-requires c κs = search needs
@@ -74,7 +74,7 @@ same-length-15 : tie.Need-same-length-15
 same-length-15 c = search needs
 
 returns-4 : tie.Need-returns-4
-returns-4 c = op-clear _ _ (c .before .before .before .before .before .before .before .before .before .before .before .before .before .before .before .if4 .taken) (c .before .before .before .before .before .before .before .before .clear .ensures)
+returns-4 c = op-clear _ _ (c .before .before .before .before .before .before .before .before .before .before .before .before .before .before .before .before .if4 .taken) (c .before .before .before .before .before .before .before .before .clear .ensures)
 
 clear-to-requires : tie.Need-clear-to-requires
 clear-to-requires c κs = search needs
@@ -92,7 +92,7 @@ same-length-19 : tie.Need-same-length-19
 same-length-19 c = search needs
 
 returns-5 : tie.Need-returns-5
-returns-5 c = op-clearTo _ _ (c .before .before .before .before .before .before .before .before .before .before .before .before .before .before .before .if5 .taken) (c .before .before .before .before .before .before .before .before .clear-to .ensures)
+returns-5 c = op-clearTo _ _ (c .before .before .before .before .before .before .before .before .before .before .before .before .before .before .before .before .if5 .taken) (c .before .before .before .before .before .before .before .before .clear-to .ensures)
 
 read-only-requires : tie.Need-read-only-requires
 read-only-requires c κs = search needs

@@ -24,7 +24,7 @@ same-length-4 : tie.Need-same-length-4
 same-length-4 c = search needs
 
 returns : tie.Need-returns
-returns c = serve-formed _ _ (sym (c .before .before .before .before .before .before .before .before .before .before .before .before .before .before .before .before .is-formed .ensures) ∙ c .before .before .before .before .before .before .before .before .before .before .before .before .before .before .before .if1 .taken) (c .before .before .before .before .before .before .before .before .operate .ensures)
+returns c = serve-formed _ _ (sym (c .before .before .before .before .before .before .before .before .before .before .before .before .before .before .before .before .before .is-formed .ensures) ∙ c .before .before .before .before .before .before .before .before .before .before .before .before .before .before .before .before .if1 .taken) (c .before .before .before .before .before .before .before .before .operate .ensures)
 
 bare-requires : tie.Need-bare-requires
 bare-requires c κs = search needs

@@ -4,6 +4,7 @@ use native.Mathlib.Omega.{arith}
 use Rattle.pool.specs.World.{worldOf}
 use Rattle.pool.specs.Sound.{Whole}
 use Rattle.pool.proofs.Fine.{whole-ready}
+use Rattle.pool.proofs.CodeState.{state-typed}
 use Rattle.heap.proofs.CodeChecked.{passed-whole}
 use Rattle.bulk.proofs.CodeSteps.{begun-stopped, begun-passed}
 use Rattle.bulk.proofs.steps.begin.Statement.{statement}
@@ -29,7 +30,7 @@ returns c = begun-stopped _ _ (c .before .before .examine .ensures) (c .if1 .tak
 
 -- past the examination the pool is sound
 whole : (c : tie.Else1) → let x = c .before .before .before .before .before .before .before .before .before .before .before .args in Whole (worldOf (x .state) (x .keys .now) (x .values .now) (x .next .now) (x .back .now))
-whole c = passed-whole _ _ (c .before .before .examine .ensures) (record { firsts = search needs; lasts = search needs }) (c .if1 .left)
+whole c = passed-whole _ _ (c .before .before .examine .ensures) (state-typed _ (search needs) (search needs) (search needs) (λ j. search needs)) (c .if1 .left)
 
 cast-t18 : tie.Need-cast-t18
 cast-t18 c = omega (arith, whole-ready (whole c) .fine .small)

@@ -26,11 +26,11 @@ record Turn (hs ks vs : List ℕ) (n : ℕ) (w₀ w : World) (i : ℕ) : Type 0 
   same : pushAll w₀ (zipped hs ks vs) ≡ pushAll w (drop i (zipped hs ks vs))
 
 abbrev Inv-loop : tie.InvT-loop
-Inv-loop first₀ last₀ keys₀ values₀ next₀ back₀ keys0 keys1 entries n grown₀ i₀ first last keys values next back grown i =
-    Turn keys0 keys1 entries n (world grown₀ (links first₀ last₀ next₀ back₀) keys₀ values₀) (world grown (links first last next back) keys values) i
+Inv-loop first₀ last₀ busy₀ keys₀ values₀ next₀ back₀ keys0 keys1 entries n grown₀ i₀ first last busy keys values next back grown i =
+    Turn keys0 keys1 entries n (world grown₀ (links first₀ last₀ next₀ back₀ busy₀) keys₀ values₀) (world grown (links first last next back busy) keys values) i
 
 abbrev μ-loop : tie.MeasureT-loop
-μ-loop first₀ last₀ keys₀ values₀ next₀ back₀ keys0 keys1 entries n grown₀ i₀ first last keys values next back grown i = n - i
+μ-loop first₀ last₀ busy₀ keys₀ values₀ next₀ back₀ keys0 keys1 entries n grown₀ i₀ first last busy keys values next back grown i = n - i
 
 count-requires : tie.Need-count-requires Inv-loop μ-loop
 count-requires c κs = search needs
@@ -67,7 +67,7 @@ shared-slice-read-push-3 : tie.Need-shared-slice-read-push-3 Inv-loop μ-loop
 shared-slice-read-push-3 c = search needs
 
 push-requires : tie.Need-push-requires Inv-loop μ-loop
-push-requires c κs = whole-ready (c .before .before .before .before .before .before .before .before .before .before .loop .inv .whole)
+push-requires c κs = whole-ready (c .before .before .before .before .before .before .before .before .before .before .before .loop .inv .whole)
 
 add-i : tie.Need-add-i Inv-loop μ-loop
 add-i c = search needs
@@ -77,7 +77,7 @@ loop-less c = search needs
 
 loop-again : tie.Need-loop-again Inv-loop μ-loop
 loop-again c =
-    let l = c .before .before .before .before .before .before .before .before .before .before .before .before .before .before .before .before .before .before .before .before .loop in
+    let l = c .before .before .before .before .before .before .before .before .before .before .before .before .before .before .before .before .before .before .before .before .before .loop in
     let e = c .before .before .before .before .before .before .before .before .before .push .ensures in
     record {
       turns = omega arith;

@@ -26,9 +26,9 @@ returns-2 c = sym (topped-by _ _ _ _ false true (c .before .before .before .befo
 
 drain-requires : tie.Need-drain-requires
 drain-requires c κs =
-    let p = c .before .before .before .before .before .before .before .before .before .before .before .before .pre in
-    let first = c .before .before .before .before .before .before .before .before .before .before .before .before .args .first .now in
-    let e = c .before .before .before .before .before .before .busy .ensures in
+    let p = c .before .before .before .before .before .before .before .before .before .before .before .before .before .pre in
+    let first = c .before .before .before .before .before .before .before .before .before .before .before .before .before .args .first .now in
+    let e = c .before .before .before .before .before .before .before .busy .ensures in
     (p .0, (p .1, (omega (arith, busy-to waitingChain first 0), subst (λ (b : ℕ). 0 < getD first b 0) (sym e) (busy-some waitingChain first 0 (omega (arith, busy-to waitingChain first 0))))))
 
 anew-requires : tie.Need-anew-requires
@@ -43,7 +43,7 @@ same-length-2 c = search needs
 returns-3 : tie.Need-returns-3
 returns-3 c =
     drain-anew _ _ _ _ _ _ (c .anew .ensures) (c .before .before .before .before .before .before .drain .ensures)
-    ∙ sym (topped-by _ _ _ _ false false (c .before .before .before .before .before .before .before .before .before .before .before .before .before .before .before .if1 .taken) (c .before .before .before .before .before .before .before .before .before .before .before .before .before .busy .ensures) (ne-eqb _ _ (c .before .before .before .before .before .before .before .before .before .before .before .before .if2 .left)) (ne-eqb _ _ (c .before .before .before .before .before .before .before .before .before .before .before .if3 .left)))
+    ∙ sym (topped-by _ _ _ _ false false (c .before .before .before .before .before .before .before .before .before .before .before .before .before .before .before .before .if1 .taken) (c .before .before .before .before .before .before .before .before .before .before .before .before .before .before .busy .ensures) (ne-eqb _ _ (c .before .before .before .before .before .before .before .before .before .before .before .before .before .if2 .left)) (ne-eqb _ _ (c .before .before .before .before .before .before .before .before .before .before .before .before .if3 .left)))
 
 element-copy-out-if4 : tie.Need-element-copy-out-if4
 element-copy-out-if4 c = search needs
@@ -53,7 +53,7 @@ unfolding drainUnless
 returns-4 c = sym (waiting-by _ _ _ true (c .before .before .if1 .left) (eq-eqb _ _ (c .if4 .taken)))
 
 drain-requires-2 : tie.Need-drain-requires-2
-drain-requires-2 c κs = let p = c .before .before .before .before .before .before .before .before .before .before .pre in (p .0, (p .1, (omega arith, omega (arith, c .before .before .before .before .if4 .left))))
+drain-requires-2 c κs = let p = c .before .before .before .before .before .before .before .before .before .before .before .pre in (p .0, (p .1, (omega arith, omega (arith, c .before .before .before .before .before .if4 .left))))
 
 anew-requires-2 : tie.Need-anew-requires-2
 anew-requires-2 c κs = search needs
@@ -67,7 +67,7 @@ same-length-4 c = search needs
 returns-5 : tie.Need-returns-5
 returns-5 c =
     drain-anew _ _ _ _ _ _ (c .anew2 .ensures) (c .before .before .before .before .before .before .drain2 .ensures)
-    ∙ sym (waiting-by _ _ _ false (c .before .before .before .before .before .before .before .before .before .before .before .before .before .if1 .left) (ne-eqb _ _ (c .before .before .before .before .before .before .before .before .before .before .before .if4 .left)))
+    ∙ sym (waiting-by _ _ _ false (c .before .before .before .before .before .before .before .before .before .before .before .before .before .before .if1 .left) (ne-eqb _ _ (c .before .before .before .before .before .before .before .before .before .before .before .before .if4 .left)))
 
 pub constrain-spec : {M : Type 1} → statement M
 constrain-spec =

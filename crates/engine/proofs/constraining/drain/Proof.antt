@@ -40,7 +40,7 @@ key1-requires : tie.Need-key1-requires
 key1-requires c κs = room-holds _ (c .before .before .before .before .before .before .before .pre .1 .0) (omega (arith, found (c .before)))
 
 spread-requires : tie.Need-spread-requires
-spread-requires c κs = let p = c .before .before .before .before .before .before .before .before .before .before .before .before .pre in (p .0, (p .1 .0, p .1 .1 .0))
+spread-requires c κs = let p = c .before .before .before .before .before .before .before .before .before .before .before .before .before .pre in (p .0, (p .1 .0, p .1 .1 .0))
 
 same-length : tie.Need-same-length
 same-length c = search needs
@@ -49,7 +49,7 @@ same-length-2 : tie.Need-same-length-2
 same-length-2 c = search needs
 
 returns : tie.Need-returns
-returns c = drain-gives _ _ _ _ _ _ _ _ _ (c .before .before .before .before .before .before .before .before .before .before .before .greatest .ensures) (c .before .before .before .before .before .before .before .before .before .before .key0 .ensures) (c .before .before .before .before .before .before .before .before .before .key1 .ensures) (c .before .before .before .before .spread .ensures)
+returns c = drain-gives _ _ _ _ _ _ _ _ _ (c .before .before .before .before .before .before .before .before .before .before .before .before .greatest .ensures) (c .before .before .before .before .before .before .before .before .before .before .before .key0 .ensures) (c .before .before .before .before .before .before .before .before .before .before .key1 .ensures) (c .before .before .before .before .spread .ensures)
 
 pub drain-spec : {M : Type 1} → statement M
 drain-spec =

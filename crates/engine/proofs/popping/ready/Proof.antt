@@ -20,7 +20,7 @@ same-length-2 c = search needs
 
 returns : tie.Need-returns
 unfolding readied
-returns c = c .before .before .before .before .constrain .ensures ∙ simp (eq-eqb _ _ (c .before .before .before .before .before .before .before .before .before .if1 .taken))
+returns c = c .before .before .before .before .constrain .ensures ∙ simp (eq-eqb _ _ (c .before .before .before .before .before .before .before .before .before .before .if1 .taken))
 
 returns-2 : tie.Need-returns-2
 unfolding readied

@@ -28,7 +28,7 @@ take-free-requires c κs = (some (c .before .before .before), c .before .before 
 
 -- and what is taken is a slot
 slot-low : (c : tie.After-take-free) → c .take-free .result < length (c .before .before .before .before .before .before .before .before .before .before .before .args .next .now)
-slot-low c = taken-slot _ _ _ (c .before .before .before .before .before .before .before .before .before .before .before .pre .fine) (c .take-free .ensures (c .before .before .before .before .before .before .before .before .before .before .before .args .back .now)) (some (c .before .before .before .before))
+slot-low c = taken-slot _ _ _ (c .before .before .before .before .before .before .before .before .before .before .before .pre .fine) (c .take-free .ensures (c .before .before .before .before .before .before .before .before .before .before .before .args .back .now) (c .before .before .before .before .before .before .before .before .before .before .before .args .busy .now)) (some (c .before .before .before .before))
 
 cast-i : tie.Need-cast-i
 cast-i c = search needs
@@ -47,11 +47,11 @@ place-requires c κs = search needs
 
 append-requires : tie.Need-append-requires
 append-requires c κs =
-    let x = c .before .before .before .before .before .before .before .before .before .before .before .before .before .before .before .before .before .before .before .before .args in
-    (taken-fine _ _ _ (c .before .before .before .before .before .before .before .before .before .before .before .before .before .before .before .before .before .before .before .before .pre .fine) (c .before .before .before .before .before .before .before .before .before .take-free .ensures (x .back .now)), (omega (arith, place-low (x .head) (x .key0) (x .key1), c .place .ensures), slot-low (c .before .before .before .before .before .before .before .before .before)))
+    let x = c .before .before .before .before .before .before .before .before .before .before .before .before .before .before .before .before .before .before .before .before .before .args in
+    (taken-fine _ _ _ (c .before .before .before .before .before .before .before .before .before .before .before .before .before .before .before .before .before .before .before .before .before .pre .fine) (c .before .before .before .before .before .before .before .before .before .before .take-free .ensures (x .back .now) (x .busy .now)), (omega (arith, place-low (x .head) (x .key0) (x .key1), c .place .ensures), slot-low (c .before .before .before .before .before .before .before .before .before .before)))
 
-add-t17 : tie.Need-add-t17
-add-t17 c = omega (arith, len-more (c .before .before .before .before .before .before .before .before .before .before .before .before .before .before .before .before .before .before .before .before .before .before .before .before .before .before .pre))
+add-t18 : tie.Need-add-t18
+add-t18 c = omega (arith, len-more (c .before .before .before .before .before .before .before .before .before .before .before .before .before .before .before .before .before .before .before .before .before .before .before .before .before .before .before .pre))
 
 same-length : tie.Need-same-length
 same-length c = search needs
@@ -67,9 +67,9 @@ same-length-4 c = search needs
 
 returns-2 : tie.Need-returns-2
 returns-2 c =
-    let back = c .before .before .before .before .before .before .before .before .before .before .before .before .before .before .before .before .before .before .before .before .before .before .before .before .before .before .args .back .now in
-    let taken = c .before .before .before .before .before .before .before .before .before .before .before .before .before .before .before .take-free .ensures back in
-    push-done _ _ _ _ _ (c .before .before .before .before .before .before .before .before .before .before .before .before .before .before .before .before .before .before .before .before .push-code .ensures) _ _ _ _ _ (c .before .before .before .before .before .before .before .before .before .before .before .before .before .before .before .before .before .before .before .if1 .left) taken (c .before .before .before .before .before .before .before .before .before .before .before .before .before .store-key .ensures) (c .before .before .before .before .before .before .place .ensures) (c .before .before .before .before .before .append .ensures)
+    let x = c .before .before .before .before .before .before .before .before .before .before .before .before .before .before .before .before .before .before .before .before .before .before .before .before .before .before .before .args in
+    let taken = c .before .before .before .before .before .before .before .before .before .before .before .before .before .before .before .before .take-free .ensures (x .back .now) (x .busy .now) in
+    push-done _ _ _ _ _ (c .before .before .before .before .before .before .before .before .before .before .before .before .before .before .before .before .before .before .before .before .before .push-code .ensures) _ _ _ _ _ (c .before .before .before .before .before .before .before .before .before .before .before .before .before .before .before .before .before .before .before .before .if1 .left) taken (c .before .before .before .before .before .before .before .before .before .before .before .before .before .before .store-key .ensures) (c .before .before .before .before .before .before .place .ensures) (c .before .before .before .before .before .append .ensures)
 
 pub push-spec : {M : Type 1} → statement M
 push-spec =
@@ -85,7 +85,7 @@ push-spec =
     slice-write-values
     place-requires
     append-requires
-    add-t17
+    add-t18
     same-length
     same-length-2
     same-length-3

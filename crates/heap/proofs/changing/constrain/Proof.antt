@@ -3,6 +3,7 @@ use borrow.Author.Needs.{needs}
 use Rattle.pool.specs.World.{worldOf}
 use Rattle.pool.specs.Sound.{Whole}
 use Rattle.pool.proofs.Fine.{whole-fine, whole-room}
+use Rattle.pool.proofs.CodeState.{state-typed}
 use Rattle.heap.specs.Calls.{constrained}
 use Rattle.heap.proofs.CodeChecked.{stopped, passed-whole}
 use Rattle.heap.proofs.CodeCalls.{constrained-is}
@@ -24,10 +25,10 @@ returns c = stopped _ _ (c .before .examine .ensures) _ (c .if1 .taken)
 
 -- past the examination the pool is sound
 whole : (c : tie.Else1) → let x = c .before .before .before .before .before .before .before .before .args in Whole (worldOf (x .state) (x .keys .now) (x .values .now) (x .next .now) (x .back .now))
-whole c = passed-whole _ _ (c .before .examine .ensures) (record { firsts = search needs; lasts = search needs }) (c .if1 .left)
+whole c = passed-whole _ _ (c .before .examine .ensures) (state-typed _ (search needs) (search needs) (search needs) (λ j. search needs)) (c .if1 .left)
 
 constrain-requires : tie.Need-constrain-requires
-constrain-requires c κs = (whole-fine (whole (c .before .before .before .before .before .before)), whole-room (whole (c .before .before .before .before .before .before)))
+constrain-requires c κs = (whole-fine (whole (c .before .before .before .before .before .before .before .before)), whole-room (whole (c .before .before .before .before .before .before .before .before)))
 
 same-length-3 : tie.Need-same-length-3
 same-length-3 c = search needs
@@ -36,7 +37,7 @@ same-length-4 : tie.Need-same-length-4
 same-length-4 c = search needs
 
 returns-2 : tie.Need-returns-2
-returns-2 c = constrained-is (whole (c .before .before .before .before .before .before .before .before .before .before .before .before)) (c .before .before .before .before .before .constrain .ensures)
+returns-2 c = constrained-is (whole (c .before .before .before .before .before .before .before .before .before .before .before .before .before .before)) (c .before .before .before .before .before .constrain .ensures)
 
 pub constrain-spec : {M : Type 1} → statement M
 constrain-spec =

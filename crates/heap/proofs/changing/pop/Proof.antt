@@ -4,6 +4,7 @@ use borrow.Author.Needs.{needs}
 use Rattle.pool.specs.World.{worldOf}
 use Rattle.pool.specs.Sound.{Whole}
 use Rattle.pool.proofs.Fine.{whole-ready}
+use Rattle.pool.proofs.CodeState.{state-typed}
 use Rattle.heap.specs.Answers.{popAnswered}
 use Rattle.heap.specs.Calls.{popped}
 use Rattle.heap.proofs.CodeChecked.{stopped, passed-whole}
@@ -32,10 +33,10 @@ returns c = stopped _ _ (c .before .examine .ensures) _ (c .if1 .taken)
 
 -- past the examination the pool is sound
 whole : (c : tie.Else1) → let x = c .before .before .before .before .before .before .before .before .before .before .args in Whole (worldOf (x .state) (x .keys .now) (x .values .now) (x .next .now) (x .back .now))
-whole c = passed-whole _ _ (c .before .examine .ensures) (record { firsts = search needs; lasts = search needs }) (c .if1 .left)
+whole c = passed-whole _ _ (c .before .examine .ensures) (state-typed _ (search needs) (search needs) (search needs) (λ j. search needs)) (c .if1 .left)
 
 pop-requires : tie.Need-pop-requires
-pop-requires c κs = whole-ready (whole (c .before .before .before .before .before .before .before .before))
+pop-requires c κs = whole-ready (whole (c .before .before .before .before .before .before .before .before .before .before))
 
 given-if-requires : tie.Need-given-if-requires
 given-if-requires c κs = search needs
@@ -54,7 +55,7 @@ same-length-8 c = search needs
 
 returns-2 : tie.Need-returns-2
 returns-2 c = ap (popAnswered _ _ _) (c .given-if .ensures)
-    ∙ popped-given (whole (c .before .before .before .before .before .before .before .before .before .before .before .before .before .before .before .before .before .before .before .before)) _ _ _ _ _ _ (c .before .before .before .before .before .before .before .before .before .before .before .pop .ensures)
+    ∙ popped-given (whole (c .before .before .before .before .before .before .before .before .before .before .before .before .before .before .before .before .before .before .before .before .before .before)) _ _ _ _ _ _ (c .before .before .before .before .before .before .before .before .before .before .before .pop .ensures)
 
 pub pop-spec : {M : Type 1} → statement M
 pop-spec =

@@ -3,6 +3,7 @@ use borrow.Author.Needs.{needs}
 use Rattle.pool.specs.World.{worldOf}
 use Rattle.pool.specs.Sound.{Whole}
 use Rattle.pool.proofs.Fine.{whole-ready}
+use Rattle.pool.proofs.CodeState.{state-typed}
 use Rattle.heap.specs.Calls.{pushed}
 use Rattle.heap.proofs.CodeChecked.{stopped, passed-whole}
 use Rattle.heap.proofs.CodeCalls.{pushed-is}
@@ -30,10 +31,10 @@ returns c = stopped _ _ (c .before .examine .ensures) _ (c .if1 .taken)
 
 -- past the examination the pool is sound
 whole : (c : tie.Else1) → let x = c .before .before .before .before .before .before .before .before .before .before .args in Whole (worldOf (x .state) (x .keys .now) (x .values .now) (x .next .now) (x .back .now))
-whole c = passed-whole _ _ (c .before .examine .ensures) (record { firsts = search needs; lasts = search needs }) (c .if1 .left)
+whole c = passed-whole _ _ (c .before .examine .ensures) (state-typed _ (search needs) (search needs) (search needs) (λ j. search needs)) (c .if1 .left)
 
 push-requires : tie.Need-push-requires
-push-requires c κs = whole-ready (whole (c .before .before .before .before .before .before .before .before))
+push-requires c κs = whole-ready (whole (c .before .before .before .before .before .before .before .before .before .before))
 
 same-length-5 : tie.Need-same-length-5
 same-length-5 c = search needs
@@ -48,7 +49,7 @@ same-length-8 : tie.Need-same-length-8
 same-length-8 c = search needs
 
 returns-2 : tie.Need-returns-2
-returns-2 c = pushed-is (whole (c .before .before .before .before .before .before .before .before .before .before .before .before .before .before .before .before .before .before)) _ _ _ (c .before .before .before .before .before .before .before .before .before .push .ensures)
+returns-2 c = pushed-is (whole (c .before .before .before .before .before .before .before .before .before .before .before .before .before .before .before .before .before .before .before .before)) _ _ _ (c .before .before .before .before .before .before .before .before .before .push .ensures)
 
 pub push-spec : {M : Type 1} → statement M
 push-spec =

@@ -6,6 +6,7 @@ use Rattle.pool.specs.World.{worldOf}
 use Rattle.pool.specs.Sound.{Whole}
 use Rattle.pool.proofs.Fine.{whole-ready}
 use Rattle.heap.specs.Calls.{listed}
+use Rattle.pool.proofs.CodeState.{state-typed}
 use Rattle.heap.proofs.CodeChecked.{stopped-list, passed-whole}
 use Rattle.heap.proofs.CodeCalls.{roomy, listed-short, listed-all}
 use Rattle.heap.proofs.reading.list.Statement.{statement}
@@ -20,7 +21,7 @@ returns c = stopped-list _ _ (c .before .examine .ensures) _ _ _ (c .if1 .taken)
 
 -- past the examination the pool is sound
 whole : (c : tie.Else1) → let x = c .before .before .before .before .before .before .before .before .args in Whole (worldOf (x .state) (x .keys .now) (x .values .now) (x .next .now) (x .back .now))
-whole c = passed-whole _ _ (c .before .examine .ensures) (record { firsts = search needs; lasts = search needs }) (c .if1 .left)
+whole c = passed-whole _ _ (c .before .examine .ensures) (state-typed _ (search needs) (search needs) (search needs) (λ j. search needs)) (c .if1 .left)
 
 cast-len : tie.Need-cast-len
 cast-len c = search needs

@@ -3,6 +3,7 @@ use mathlib.Core.Path.{ap, _∙_}
 use borrow.Author.Needs.{needs}
 use Rattle.heap.specs.Answers.{topAnswered}
 use Rattle.heap.specs.Calls.{topRead}
+use Rattle.pool.proofs.CodeState.{state-typed}
 use Rattle.heap.proofs.CodeChecked.{stopped, passed-whole}
 use Rattle.heap.proofs.CodeCalls.{top-told}
 use Rattle.heap.proofs.reading.top.Statement.{statement}
@@ -21,7 +22,7 @@ top-if-requires c κs = search needs
 returns-2 : tie.Need-returns-2
 returns-2 c =
     ap (topAnswered _ _) (c .top-if .ensures)
-    ∙ top-told (passed-whole _ _ (c .before .before .before .examine .ensures) (record { firsts = search needs; lasts = search needs }) (c .before .before .if1 .left))
+    ∙ top-told (passed-whole _ _ (c .before .before .before .examine .ensures) (state-typed _ (search needs) (search needs) (search needs) (λ j. search needs)) (c .before .before .if1 .left))
 
 pub top-spec : {M : Type 1} → statement M
 top-spec = tie.close (tie.spec examine-requires returns top-if-requires returns-2)

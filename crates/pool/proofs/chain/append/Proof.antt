@@ -18,6 +18,9 @@ mul-tail c = search needs
 element-copy-out-tail : tie.Need-element-copy-out-tail
 element-copy-out-tail c = search needs
 
+mark-requires : tie.Need-mark-requires
+mark-requires c κs = search needs
+
 mul-first : tie.Need-mul-first
 mul-first c = search needs
 
@@ -25,16 +28,16 @@ element-write-first : tie.Need-element-write-first
 element-write-first c = search needs
 
 cast-t : tie.Need-cast-t
-cast-t c = omega (arith, c .before .before .pre .0 .last .at (c .before .before .args .chain))
+cast-t c = omega (arith, c .before .before .before .before .pre .0 .last .at (c .before .before .before .before .args .chain))
 
 sub-t : tie.Need-sub-t
 sub-t c = search needs
 
 mul-next : tie.Need-mul-next
-mul-next c = omega (arith, c .before .before .pre .0 .last .at (c .before .before .args .chain))
+mul-next c = omega (arith, c .before .before .before .before .pre .0 .last .at (c .before .before .before .before .args .chain))
 
 slice-write-next : tie.Need-slice-write-next
-slice-write-next c = omega (arith, c .before .before .pre .0 .last .at (c .before .before .args .chain))
+slice-write-next c = omega (arith, c .before .before .before .before .pre .0 .last .at (c .before .before .before .before .args .chain))
 
 mul-last : tie.Need-mul-last
 mul-last c = search needs
@@ -52,8 +55,8 @@ mul-next-2 : tie.Need-mul-next-2
 mul-next-2 c = search needs
 
 -- where the arms meet: `next` is as long as it was
-kept : (c : tie.Joined1) → length (c .if1 .next) ≡ length (c .before .before .args .next .now)
-kept c = ⊎-elim (λ w. ap length (w .2)) (λ w. ap length (w .2) ∙ simp length-set) (c .if1 .came)
+kept : (c : tie.Joined1) → length (c .if1 .next) ≡ length (c .before .before .before .before .args .next .now)
+kept c = ⊎-elim (λ w. ap length (w .5)) (λ w. ap length (w .3) ∙ simp length-set) (c .if1 .came)
 
 slice-write-next-2 : tie.Need-slice-write-next-2
 slice-write-next-2 c = omega (arith, kept c)
@@ -68,8 +71,8 @@ returns : tie.Need-returns
 unfolding appended
 returns c =
     ⊎-elim
-    (λ w. simp (w .1, w .2, eq-eqb _ _ (w .0 .taken)))
-    (λ w. simp (w .1, w .2, ne-eqb _ _ (w .0 .left)))
+    (λ w. simp (w .3, w .4, w .5, eq-eqb _ _ (w .0 .taken), w .2 .ensures))
+    (λ w. simp (w .1, w .2, w .3, ne-eqb _ _ (w .0 .left)))
     (c .if1 .came)
 
 pub append-spec : {M : Type 1} → statement M
@@ -79,6 +82,7 @@ append-spec =
     add-link
     mul-tail
     element-copy-out-tail
+    mark-requires
     mul-first
     element-write-first
     cast-t

@@ -10,7 +10,7 @@ add-link : tie.Need-add-link
 add-link c = search needs
 
 store-key-requires : tie.Need-store-key-requires
-store-key-requires c κs = room-holds _ (c .before .before .before .before .before .pre .1 .0) (search needs)
+store-key-requires c κs = room-holds _ (c .before .before .before .before .before .pre .1 .1 .0) (search needs)
 
 mul-values : tie.Need-mul-values
 mul-values c = search needs
@@ -53,7 +53,7 @@ same-length-4 c = search needs
 
 returns : tie.Need-returns
 unfolding released
-returns c = simp (c .before .before .before .before .store-key .ensures, eq-eqb _ _ (c .if1 .taken))
+returns c = λ busy. simp (c .before .before .before .before .store-key .ensures, eq-eqb _ _ (c .if1 .taken))
 
 same-length-5 : tie.Need-same-length-5
 same-length-5 c = search needs
@@ -69,7 +69,7 @@ same-length-8 c = search needs
 
 returns-2 : tie.Need-returns-2
 unfolding released
-returns-2 c = simp (c .before .before .before .before .store-key .ensures, ne-eqb _ _ (c .if1 .left))
+returns-2 c = λ busy. simp (c .before .before .before .before .store-key .ensures, ne-eqb _ _ (c .if1 .left))
 
 pub release-spec : {M : Type 1} → statement M
 release-spec =

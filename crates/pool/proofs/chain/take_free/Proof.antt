@@ -28,11 +28,11 @@ element-write-last c = search needs
 
 returns : tie.Need-returns
 unfolding freeTaken
-returns c = λ back. simp (eq-eqb _ _ (c .if1 .taken))
+returns c = λ back busy. simp (eq-eqb _ _ (c .if1 .taken))
 
 returns-2 : tie.Need-returns-2
 unfolding freeTaken
-returns-2 c = λ back. simp (ne-eqb _ _ (c .if1 .left))
+returns-2 c = λ back busy. simp (ne-eqb _ _ (c .if1 .left))
 
 pub take-free-spec : {M : Type 1} → statement M
 take-free-spec =

@@ -15,23 +15,26 @@ sub-slot : tie.Need-sub-slot
 sub-slot c = search needs
 
 cast-i : tie.Need-cast-i
-cast-i c = omega (arith, c .before .pre .0 .last .at 0)
+cast-i c = omega (arith, c .before .before .before .pre .0 .last .at 0)
 
 mul-before : tie.Need-mul-before
-mul-before c = omega (arith, c .before .pre .0 .last .at 0)
+mul-before c = omega (arith, c .before .before .before .pre .0 .last .at 0)
 
 shared-slice-read-before : tie.Need-shared-slice-read-before
-shared-slice-read-before c = omega (arith, c .before .before .pre .0 .last .at 0)
+shared-slice-read-before c = omega (arith, c .before .before .before .before .pre .0 .last .at 0)
 
 element-write-last : tie.Need-element-write-last
 element-write-last c = search needs
+
+unmark-requires : tie.Need-unmark-requires
+unmark-requires c κs = search needs
 
 element-write-first : tie.Need-element-write-first
 element-write-first c = search needs
 
 -- the link before the tail is one of the slots
-before-le : (c : tie.Else1) → let x = c .before .before .before .args in getD (x .back .now) (getD (x .last .now) 0 0 - 1) 0 ≤ length (x .next .now)
-before-le c = c .before .before .before .pre .0 .back .at (getD (c .before .before .before .args .last .now) 0 0 - 1)
+before-le : (c : tie.Else1) → let x = c .before .before .before .before .before .args in getD (x .back .now) (getD (x .last .now) 0 0 - 1) 0 ≤ length (x .next .now)
+before-le c = c .before .before .before .before .before .pre .0 .back .at (getD (c .before .before .before .before .before .args .last .now) 0 0 - 1)
 
 cast-b : tie.Need-cast-b
 cast-b c = omega (arith, before-le c)
@@ -47,7 +50,7 @@ slice-write-next c = omega (arith, before-le c)
 
 returns : tie.Need-returns
 unfolding tailUnhooked
-returns c = simp (eq-eqb _ _ (c .if1 .taken))
+returns c = simp (eq-eqb _ _ (c .before .before .if1 .taken), c .unmark .ensures)
 
 same-length : tie.Need-same-length
 same-length c = search needs
@@ -66,6 +69,7 @@ unhook-tail-spec =
     mul-before
     shared-slice-read-before
     element-write-last
+    unmark-requires
     element-write-first
     cast-b
     sub-b

@@ -22,13 +22,13 @@ fit : (c : tie.Else1) → fitting (handed (c .before .before .before .before .be
 fit c = fitting-is _ ∙ sym (c .before .fits2 .ensures) ∙ not-false _ (c .if1 .left)
 
 -- after the scan
-scanned : (c : tie.After-walk-all) → let w = handed (c .before .before .before .before .before .before .before .before .before .before .before .before .before) in examined w ≡ finish w (c .walk-all .result)
+scanned : (c : tie.After-walk-all) → let w = handed (c .before .before .before .before .before .before .before .before .before .before .before .before .before .before .before) in examined w ≡ finish w (c .walk-all .result)
 scanned c =
-    let d = c .before .before .before .before .before in
+    let d = c .before .before .before .before .before .before .before in
     headed-code _ (fit (d .before .before)) (sym (d .before .top-is-plain .ensures) ∙ not-false _ (d .if2 .left)) (c .walk-all .ensures)
 
-few : (c : tie.After-walk-all) → c .walk-all .result ≤ size (handed (c .before .before .before .before .before .before .before .before .before .before .before .before .before)) + 1
-few c = scan-few (handed (c .before .before .before .before .before .before .before .before .before .before .before .before .before)) (c .walk-all .ensures)
+few : (c : tie.After-walk-all) → c .walk-all .result ≤ size (handed (c .before .before .before .before .before .before .before .before .before .before .before .before .before .before .before)) + 1
+few c = scan-few (handed (c .before .before .before .before .before .before .before .before .before .before .before .before .before .before .before)) (c .walk-all .ensures)
 
 fits-requires : tie.Need-fits-requires
 fits-requires c κs = search needs
@@ -43,7 +43,7 @@ returns-2 : tie.Need-returns-2
 returns-2 c = sym (unheaded-code _ (fit (c .before .before)) (sym (c .before .top-is-plain .ensures) ∙ not-true _ (c .if2 .taken)))
 
 walk-all-requires : tie.Need-walk-all-requires
-walk-all-requires c κs = let f = fitting-fit _ (fit (c .before .before .before .before .before .before)) in (fit-room f, f .someBacks)
+walk-all-requires c κs = let f = fitting-fit _ (fit (c .before .before .before .before .before .before .before .before)) in (fit-room f, f .someBacks)
 
 returns-3 : tie.Need-returns-3
 returns-3 c = sym (scanned (c .before) ∙ finish-refused _ _ (c .if3 .taken))
@@ -71,20 +71,20 @@ sub-walk-free c = search needs
 
 walk-free-requires : tie.Need-walk-free-requires
 walk-free-requires c κs =
-    let f = fitting-fit _ (fit (c .before .before .before .before .before .before .before .before .before .before)) in
+    let f = fitting-fit _ (fit (c .before .before .before .before .before .before .before .before .before .before .before .before)) in
     (fit-room f, (f .someValues, (f .someBacks, omega (arith, few (c .before .before .before)))))
 
 returns-5 : tie.Need-returns-5
 returns-5 c =
     let d = c .before .before .before .before in
-    let s = d .before .before .before .before .before .before .before .before .before .before .before .before .before .before .before .args .state in
-    sym (scanned (d .before) ∙ finish-unfree _ (d .if3 .left) (c .before .before .if4 .left) (c .before .walk-free .ensures (s .first) (s .last)) (c .if5 .taken))
+    let s = d .before .before .before .before .before .before .before .before .before .before .before .before .before .before .before .before .before .args .state in
+    sym (scanned (d .before) ∙ finish-unfree _ (d .if3 .left) (c .before .before .if4 .left) (c .before .walk-free .ensures (s .first) (s .last) (s .busy)) (c .if5 .taken))
 
 returns-6 : tie.Need-returns-6
 returns-6 c =
     let d = c .before .before .before .before in
-    let s = d .before .before .before .before .before .before .before .before .before .before .before .before .before .before .before .args .state in
-    sym (scanned (d .before) ∙ finish-sound _ (d .if3 .left) (c .before .before .if4 .left) (c .before .walk-free .ensures (s .first) (s .last)) (c .if5 .left))
+    let s = d .before .before .before .before .before .before .before .before .before .before .before .before .before .before .before .before .before .args .state in
+    sym (scanned (d .before) ∙ finish-sound _ (d .if3 .left) (c .before .before .if4 .left) (c .before .walk-free .ensures (s .first) (s .last) (s .busy)) (c .if5 .left))
 
 pub examine-spec : {M : Type 1} → statement M
 examine-spec =
