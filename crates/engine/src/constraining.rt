@@ -73,7 +73,7 @@ pub fn constrain(
     ensures { λ r. ⌜ shifted (r .head) (links (now (first .exit)) (now (last .exit)) (now (next .exit)) (now (back .exit)) (now (busy .exit))) (r .moves) ≡ constrainCore head (links (now (first .entry)) (now (last .entry)) (now (next .entry)) (now (back .entry)) (now (busy .entry))) (now (keys .entry)) ⌝ }
 {
     if head.topped {
-        let b = pool::busy(first);
+        let b = pool::first_busy(busy);
         if b == 0 {
             return Shifted { head, moves: 0 };
         }

@@ -16,7 +16,7 @@ use Rattle.keys.specs.Ordered.{words, width}
 use Rattle.pool.specs.World.{freeChain, chainCount, Links, links, World, slotKey, size, firstOf, chains}
 use Rattle.pool.specs.Sound.{Fit, Whole, limit}
 use Rattle.pool.specs.Fine.{Under, FineAt, Fine, Room, Holds, Ready}
-use Rattle.pool.specs.Core.{appendedBy, appended, unhookedBy, unhooked, cut, freed, emptied, better, greatestFrom, drained, drainFrom, busyFrom}
+use Rattle.pool.specs.Core.{appendedBy, appended, unhookedBy, unhooked, cut, freed, emptied, better, greatestFrom, drained, drainFrom}
 use Rattle.pool.proofs.Chains.{hit-same, hit-cases, tally-ge, tally-find, last-on0}
 use Rattle.pool.proofs.Marks.{mark-summary, unmark-summary, summary-past}
 use Rattle.pool.proofs.Laid.{Good, laid-inside}
@@ -147,19 +147,6 @@ drained-fine n (suc m) kind keys t (suc i) moves s f h =
     (appended-fine n s (distance (width kind) (slotKey kind keys i) t) i f (omega arith)) (f .next .at i)
 
 -- ---- turns of the loops, as the code takes them
-
-module _ (first : List ℕ) (b : ℕ) where
-  pub busy-on : (m k : ℕ) → m ≡ suc k → getD first b 0 ≡ 0 → busyFrom m first b ≡ busyFrom k first (b + 1)
-  unfolding busyFrom
-  busy-on m k e z = rw (e, eq-eqb (getD first b 0) 0 z)
-
-  pub busy-stop : (m k : ℕ) → m ≡ suc k → (getD first b 0 ≡ 0 → ⊥) → busyFrom m first b ≡ b
-  unfolding busyFrom
-  busy-stop m k e z = rw (e, ne-eqb (getD first b 0) 0 z)
-
-  pub busy-end : (m : ℕ) → m ≡ 0 → busyFrom m first b ≡ b
-  unfolding busyFrom
-  busy-end m e = rw e
 
 module _ (kind : ℕ) (keys : List ℕ) (t at moves : ℕ) (s : Links) where
   pub drain-on : (m k : ℕ) → m ≡ suc k → (at ≡ 0 → ⊥)

@@ -7,12 +7,13 @@
 --                                                               and its links those that the chains are laid out as; moves, slots and words given
 --   held-len, free-len (Follows)                                the length counts the entries held, and the rest is free
 --   whole-ready (Fine)                                          an examined pool has the bounds that the core asks for
--- Below them: Chains (lists of slots), Digits and Marks (the busy words), Laid (links laid out as chains, with slots off), OnChains
+-- Below them: Chains (lists of slots), Digits, Marks and Lowest (the busy words), Laid (links laid out as chains, with slots off), OnChains
 -- (one chain changes), Keys (words of slots), Push, Take, FreshPool, Drain (what a step does to chains), Refine and Pop (the rule's
 -- steps), Fine and Steps (what steps keep on any links, sound or not), Code.. (what the proofs of the code lean on).
 pub mod Chains
 pub mod Digits
 pub mod Marks
+pub mod Lowest
 pub mod Exam
 pub mod Laid
 pub mod OnChains

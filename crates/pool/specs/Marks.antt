@@ -4,6 +4,7 @@ use mathlib.Core.List.{List, [], _∷_}
 use Prim.Native.Nat.{ℕ, zero, suc, _+_, _-_, _*_, _/_, _%_, _^_}
 use lib.Dec.{ltb, eqb}
 use lib.Bits.{bitAnd, bitOr}
+use lib.Count.{trailingZeros}
 use lib.ListN.{getD, set}
 use Rattle.pool.specs.World.{waitingChain}
 
@@ -32,7 +33,7 @@ unfoldable pub summary : List ℕ → List ℕ
 unfolding bits
 summary first = bits 64 first 0 ∷ bits 64 first 64 ∷ bits 1 first 128 ∷ []
 
--- ---- as the code keeps them
+-- ---- as the code keeps and reads them
 
 -- the bit of chain c is set, and cleared; the waiting chain and the free chain have none
 unfoldable pub marked : List ℕ → ℕ → List ℕ
@@ -40,6 +41,17 @@ marked words c = cond (ltb c waitingChain) (set words (c / 64) (bitOr (getD word
 
 unfoldable pub unmarked : List ℕ → ℕ → List ℕ
 unmarked words c = cond (ltb c waitingChain) (set words (c / 64) (bitAnd (getD words (c / 64) 0) (2 ^ 64 - 1 - 2 ^ (c % 64)))) words
+
+-- the number of the lowest bit that is set, in m words from word j on; the waiting chain's if there is none
+unfoldable pub lowestFrom : ℕ → List ℕ → ℕ → ℕ
+lowestFrom zero words j = waitingChain
+lowestFrom (suc m) words j =
+    let r = lowestFrom m words (j + 1) in
+    cond (eqb (getD words j 0) 0) r (64 * j + trailingZeros 64 (getD words j 0))
+
+unfoldable pub lowest : List ℕ → ℕ
+unfolding lowestFrom
+lowest words = lowestFrom 3 words 0
 
 -- are the three words the same?
 unfoldable pub sameWords : List ℕ → List ℕ → Bool

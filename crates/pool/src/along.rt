@@ -1,4 +1,4 @@
-// Along a chain and along the buckets: the greatest key, the spread of a chain, the first busy bucket.
+// Along a chain: the greatest key, and the spread of a chain.
 use crate::against::slot_above_slot;
 use crate::against::slot_distance;
 use crate::chain::append;
@@ -8,9 +8,9 @@ ghost use mathlib.Core.Path.{_≡_};
 ghost use Prim.Native.Nat.{_<_, _≤_};
 ghost use lib.ListN.{length};
 ghost use Rattle.keys.specs.Ordered.{ordered};
-ghost use Rattle.pool.specs.World.{waitingChain, links};
+ghost use Rattle.pool.specs.World.{links};
 ghost use Rattle.pool.specs.Fine.{Under, Fine, Room};
-ghost use Rattle.pool.specs.Core.{greatestOf, drained, drainChain, busyFrom};
+ghost use Rattle.pool.specs.Core.{greatestOf, drained, drainChain};
 
 // The link of the slot with the greatest key, the first of them, on the chain from the link `start`.
 pub fn greatest(kind: u32, keys: &[u64], next: &[u32], start: u32) -> u32
@@ -77,21 +77,4 @@ pub fn spread(
         moves += 1;
     }
     moves
-}
-
-// The first bucket that is not empty, counting up from 0; the waiting chain's number if there is none.
-pub fn busy(first: &[u32; 131]) -> usize
-    ensures { λ r. ⌜ r ≡ busyFrom waitingChain (now (first .entry)) 0 ⌝ }
-{
-    let mut b = 0;
-    let found = loop {
-        if 128 < b {
-            break 129;
-        }
-        if first[b] != 0 {
-            break b;
-        }
-        b += 1;
-    };
-    found
 }

@@ -13,7 +13,6 @@ mod keywords;
 mod state;
 mod summary;
 
-pub use along::busy;
 pub use along::greatest;
 pub use along::spread;
 pub use chain::append;
@@ -42,3 +41,4 @@ pub use state::State;
 pub use state::UNFIT;
 pub use state::UNSOUND;
 pub use state::WAITING;
+pub use summary::first_busy;

@@ -1,7 +1,7 @@
 // The busy words: bit b % 64 of word b / 64 says whether bucket b holds an entry.
 use crate::state::WAITING;
 ghost use mathlib.Core.Path.{_≡_};
-ghost use Rattle.pool.specs.Marks.{marked, unmarked, sameWords};
+ghost use Rattle.pool.specs.Marks.{marked, unmarked, lowest, sameWords};
 
 // The bit of a chain that is not empty is set. The waiting chain and the free chain have none.
 pub fn mark(busy: &mut [u64; 3], chain: usize)
@@ -23,6 +23,24 @@ pub fn unmark(busy: &mut [u64; 3], chain: usize)
         let word = busy[j];
         busy[j] = word & !(1u64 << (chain % 64));
     }
+}
+
+// The first bucket that is not empty, counting up from 0; the waiting chain's number if there is none.
+pub fn first_busy(busy: &[u64; 3]) -> usize
+    ensures { λ r. ⌜ r ≡ lowest (now (busy .entry)) ⌝ }
+{
+    let mut j = 0;
+    let found = loop {
+        if 2 < j {
+            break WAITING;
+        }
+        let word = busy[j];
+        if word != 0 {
+            break 64 * j + u64::trailing_zeros(word) as usize;
+        }
+        j += 1;
+    };
+    found
 }
 
 pub fn same_words(a: &[u64; 3], b: &[u64; 3]) -> bool
