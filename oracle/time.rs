@@ -2,8 +2,8 @@
 //!
 //! Both sides read records of 32 bytes and write answers of 40. The clock rises by one with each record, and a push is due
 //! at the clock plus a number below 1,000; `Form` says how that time is written as a key. First every byte of the
-//! answers of both is compared, the moves too; then whole passes over all batches are timed, the crate's and the port's in
-//! turn, and their answers held against the first ones.
+//! answers of both is compared, the moves too; then passes over all batches are timed batch by batch, the crate's and the port's in
+//! turn, and their answers held against the first ones. Last the port alone on a small pool, one record at a time.
 
 #[allow(dead_code)]
 mod judge;
@@ -22,6 +22,11 @@ const SLOTS: usize = 4096;
 const BATCHES: usize = 1000;
 const RECORDS: usize = 4000;
 const PASSES: usize = 11;
+
+/// The small pool of records that are served one at a time.
+const FEW_SLOTS: usize = 16;
+const FEW_HELD: usize = 8;
+const SINGLES: usize = 200_000;
 
 /// In what order a batch's pushes and pops come, and how many entries there are before the first batch.
 #[derive(Clone, Copy)]
@@ -185,6 +190,7 @@ fn compared<K: Timed>(mut batches: Batches) -> (Vec<u64>, u64) {
         by_crate(&mut heap, &records, &mut a[..n]);
         port.batch(&records, &mut b[..n]);
         assert!(a[..n] == b[..n], "the answers differ in batch {i}");
+        port.words_are_right();
         assert!(a[..n].chunks(40).all(|answer| answer[0] == 0), "a record was refused in batch {i}");
         moves += words(&a[..n]).step_by(5).map(|w| w >> 32).sum::<u64>();
         each.push(told(&a[..n]));
@@ -195,9 +201,9 @@ fn compared<K: Timed>(mut batches: Batches) -> (Vec<u64>, u64) {
     (each, whole)
 }
 
-/// How long all batches take: making the records and looking at the answers is not timed, nor is the first batch.
-fn pass(mut batches: Batches, expected: &[u64], mut work: impl FnMut(&[u8], &mut [u8])) -> Duration {
-    let (mut records, mut total) = (Vec::new(), Duration::ZERO);
+/// How long each batch takes: making the records and looking at the answers is not timed, nor is the first batch.
+fn pass(mut batches: Batches, expected: &[u64], mut work: impl FnMut(&[u8], &mut [u8])) -> Vec<Duration> {
+    let (mut records, mut times) = (Vec::new(), Vec::new());
     let mut answers = vec![0; 40 * RECORDS];
     for (i, expected) in expected.iter().enumerate() {
         batches.next(&mut records);
@@ -205,35 +211,35 @@ fn pass(mut batches: Batches, expected: &[u64], mut work: impl FnMut(&[u8], &mut
         let start = Instant::now();
         work(&records, &mut answers[..n]);
         if i > 0 {
-            total += start.elapsed();
+            times.push(start.elapsed());
         }
         assert!(told(&answers[..n]) == *expected, "the answers differ in batch {i}");
     }
-    total
+    times
 }
 
-fn crate_pass<K: Timed>(batches: Batches, expected: &[u64]) -> Duration {
+fn crate_pass<K: Timed>(batches: Batches, expected: &[u64]) -> Vec<Duration> {
     let mut heap: RadixHeapMap<K, u64> = RadixHeapMap::new();
     pass(batches, expected, |records, answers| by_crate(&mut heap, records, answers))
 }
 
-fn port_pass<K: Timed>(batches: Batches, expected: &[u64]) -> Duration {
+fn port_pass<K: Timed>(batches: Batches, expected: &[u64]) -> Vec<Duration> {
     let mut port = Port::new(K::KIND, SLOTS);
     pass(batches, expected, |records, answers| port.batch(records, answers))
 }
 
 /// The examination by itself, on the pool as each batch finds it.
-fn examination_pass<K: Timed>(batches: Batches, expected: &[u64]) -> Duration {
-    let (mut port, mut total) = (Port::new(K::KIND, SLOTS), Duration::ZERO);
+fn examination_pass<K: Timed>(batches: Batches, expected: &[u64]) -> Vec<Duration> {
+    let (mut port, mut times) = (Port::new(K::KIND, SLOTS), Vec::new());
     pass(batches, expected, |records, answers| {
         let start = Instant::now();
         port.examine();
         if records.len() == 32 * RECORDS {
-            total += start.elapsed();
+            times.push(start.elapsed());
         }
         port.batch(records, answers);
     });
-    total
+    times
 }
 
 /// Best, median and worst.
@@ -242,34 +248,102 @@ fn spread(mut times: Vec<f64>) -> [f64; 3] {
     [times[0], times[times.len() / 2], times[times.len() - 1]]
 }
 
+/// Nanoseconds for each record, over passes of the same batches: with the least time that each batch took, and for the whole
+/// passes the best, the median and the worst.
+struct Times {
+    least: f64,
+    passes: [f64; 3],
+}
+
+impl Times {
+    fn new(passes: &[Vec<Duration>], records: usize) -> Self {
+        let each = |d: Duration| d.as_nanos() as f64 / records as f64;
+        let least = (0..passes[0].len()).map(|b| passes.iter().map(|p| p[b]).min().expect("a pass")).sum();
+        Times { least: each(least), passes: spread(passes.iter().map(|p| each(p.iter().sum())).collect()) }
+    }
+
+    fn print(&self, what: &str) {
+        let [best, median, worst] = self.passes;
+        println!("  {what:<12} least {:6.2}, median {median:6.2} ({best:.2} to {worst:.2})", self.least);
+    }
+}
+
 /// Times both on the batches of a shape, with keys of a form. Gives the number of the answers without their keys.
 fn timed<K: Timed>(shape: Shape, form: Form) -> u64 {
-    let each = (BATCHES * RECORDS) as f64;
-    let per_record = |d: Duration| d.as_nanos() as f64 / each;
     let batches = Batches::new(shape, form);
     let (expected, whole) = compared::<K>(batches.clone());
     let (mut c, mut p, mut e) = (Vec::new(), Vec::new(), Vec::new());
     for _ in 0..PASSES {
-        c.push(per_record(crate_pass::<K>(batches.clone(), &expected)));
-        p.push(per_record(port_pass::<K>(batches.clone(), &expected)));
-        e.push(per_record(examination_pass::<K>(batches.clone(), &expected)));
+        c.push(crate_pass::<K>(batches.clone(), &expected));
+        p.push(port_pass::<K>(batches.clone(), &expected));
+        e.push(examination_pass::<K>(batches.clone(), &expected));
     }
-    let ratios = spread(c.iter().zip(&p).map(|(c, p)| p / c).collect());
-    let shares = spread(p.iter().zip(&e).map(|(p, e)| 100.0 * e / p).collect());
-    for (what, [best, median, worst]) in [("crate", spread(c)), ("port", spread(p)), ("examination", spread(e))] {
-        println!("  {what:<12} {median:6.2} ({best:.2} to {worst:.2})");
+    let total = |times: &[Duration]| times.iter().sum::<Duration>().as_secs_f64();
+    let ratios = spread(c.iter().zip(&p).map(|(c, p)| total(p) / total(c)).collect());
+    let [c, p, e] = [c, p, e].map(|passes| Times::new(&passes, BATCHES * RECORDS));
+    for (what, times) in [("crate", &c), ("port", &p), ("examination", &e)] {
+        times.print(what);
     }
-    println!("  ratio        {:6.2} ({:.2} to {:.2})", ratios[1], ratios[0], ratios[2]);
-    println!("  examination's share of the port's time, percent: {:.1} ({:.1} to {:.1})", shares[1], shares[0], shares[2]);
+    println!("  ratio        least {:6.2}, median {:6.2} ({:.2} to {:.2})", p.least / c.least, ratios[1], ratios[0], ratios[2]);
+    println!("  examination's share of the port's least time, percent: {:.1}", 100.0 * e.least / p.least);
     whole
 }
 
+/// A push of each second record, due later than every one before, and a pop; before them pushes for what is held.
+fn one_after_the_other(form: Form) -> Vec<u8> {
+    let (mut dice, mut out) = (Dice(1), Vec::new());
+    for i in 0..FEW_HELD + SINGLES {
+        if i < FEW_HELD || (i - FEW_HELD) % 2 == 0 {
+            let (key0, key1) = (form.words)(1000 * i as u64 + dice.below(1000));
+            Record { op: 1, rest: 0, key0, key1, value: dice.next() }.bytes(&mut out);
+        } else {
+            Record { op: 2, rest: 0, key0: 0, key1: 0, value: 0 }.bytes(&mut out);
+        }
+    }
+    out
+}
+
+/// Records served one at a time on a small pool: each is a batch of its own, so that the pool is examined for it, as it is
+/// for a single call. And the examination of that pool by itself.
+fn singles<K: Timed>(form: Form) {
+    let records = one_after_the_other(form);
+    let (first, records) = records.split_at(32 * FEW_HELD);
+    let (mut served, mut examined) = (Vec::new(), Vec::new());
+    let mut answers = [0; 40 * FEW_HELD];
+    for _ in 0..PASSES {
+        let mut port = Port::new(K::KIND, FEW_SLOTS);
+        port.batch(first, &mut answers);
+        served.push(records.chunks_exact(32 * RECORDS).map(|some| clocked(|| one_at_a_time(&mut port, some))).collect::<Vec<_>>());
+        examined.push((0..SINGLES / RECORDS).map(|_| clocked(|| (0..RECORDS).for_each(|_| port.examine()))).collect::<Vec<_>>());
+    }
+    println!("{}, one record at a time on {FEW_SLOTS} slots", form.name);
+    Times::new(&served, SINGLES).print("port");
+    Times::new(&examined, SINGLES).print("examination");
+}
+
+fn clocked(work: impl FnOnce()) -> Duration {
+    let start = Instant::now();
+    work();
+    start.elapsed()
+}
+
+fn one_at_a_time(port: &mut Port, records: &[u8]) {
+    let mut answer = [0; 40];
+    for record in records.chunks_exact(32) {
+        port.batch(record, &mut answer);
+        assert!(answer[0] == 0, "a record was refused");
+    }
+}
+
 fn main() {
-    println!("{BATCHES} batches of {RECORDS} records, {SLOTS} slots, {PASSES} passes; ns per record: median (best to worst)");
+    println!("{BATCHES} batches of {RECORDS} records, {SLOTS} slots, {PASSES} passes");
+    println!("ns per record: with the least time of each batch; the median pass (the best to the worst)");
     for shape in SHAPES {
         let whole = timed::<Reverse<u64>>(shape, TIME);
         for form in [PAIR_BY_FIRST, PAIR_BY_SECOND] {
             assert!(timed::<(u64, u64)>(shape, form) == whole, "{}: values, moves or lengths differ from kind 3", form.name);
         }
     }
+    singles::<Reverse<u64>>(TIME);
+    singles::<(u64, u64)>(PAIR_BY_FIRST);
 }
