@@ -10,6 +10,7 @@ use borrow.Author.Tests.{eq-eqb, ne-eqb}
 use lib.Dec.{eqb}
 use lib.ListN.{length, getD, set}
 use lib.Seq.{sets}
+use Rattle.keys.specs.declared.kind.Kind.{Kind}
 use Rattle.keys.specs.Ordered.{wellFormed}
 use Rattle.heap.specs.Calls.{over}
 use Rattle.heap.proofs.Listed.{sets-over}
@@ -83,12 +84,12 @@ known (suc (suc (suc (suc (suc (suc (suc zero))))))) n m a b = refl
 known (suc (suc (suc (suc (suc (suc (suc (suc op)))))))) n m a b = absurd (omega arith)
 
 -- the fields that each operation uses
-module _ (kind : ℕ) (r : Record) where
-  pub fit-push : r .op ≡ 1 → fieldsFit kind r ≡ wellFormed kind (r .key1)
+module _ (kind : Kind) (r : Record) where
+  pub fit-push : r .op ≡ 1 → fieldsFit kind r ≡ wellFormed kind (r .key0) (r .key1)
   unfolding fieldsFit
   fit-push e = simp (eq-eqb (r .op) 1 e)
 
-  pub fit-clear : r .op ≡ 5 → fieldsFit kind r ≡ (wellFormed kind (r .key1) && eqb (r .value) 0)
+  pub fit-clear : r .op ≡ 5 → fieldsFit kind r ≡ (wellFormed kind (r .key0) (r .key1) && eqb (r .value) 0)
   unfolding fieldsFit
   fit-clear e = simp (ne-eqb (r .op) 1 (λ (q : r .op ≡ 1). omega arith), eq-eqb (r .op) 5 e)
 

@@ -9,6 +9,7 @@ use borrow.Author.Tests.{eq-eqb, ne-eqb, lt-ltb, le-ltb}
 use borrow.Rule.Slice.PartMut.{midOf, putMid}
 use lib.ListN.{length, drop, length-drop, drop-of-length-le}
 use lib.Seq.{drop-drop, take-all}
+use Rattle.keys.specs.declared.kind.Kind.{Kind}
 use Rattle.keys.specs.Ordered.{words}
 use Rattle.pool.specs.declared.state.Head.{Head}
 use Rattle.pool.specs.declared.state.State.{State}
@@ -62,7 +63,7 @@ turn-first n bs w as′ h = record { turns = omega arith; whole = h; keys = refl
 
 lasting : {w u : World} → Whole w → Whole u → Kept w u → (length (u .keys) ≡ length (w .keys)) × (length (u .values) ≡ length (w .values)) × (length (u .links .back) ≡ length (w .links .back))
 lasting h m k = (
-  m .fit .someKeys ∙ ap₂ (λ (a n : ℕ). words a * n) (k .kind) (k .slots) ∙ sym (h .fit .someKeys),
+  m .fit .someKeys ∙ ap₂ (λ (a : Kind) (n : ℕ). words a * n) (k .kind) (k .slots) ∙ sym (h .fit .someKeys),
   m .fit .someValues ∙ k .slots ∙ sym (h .fit .someValues),
   m .fit .someBacks ∙ k .slots ∙ sym (h .fit .someBacks),
 )

@@ -4,21 +4,22 @@ use mathlib.Core.Bool.{Bool, true, false, cond}
 use mathlib.Core.List.{List}
 use Prim.Native.Nat.{ℕ, _*_, _^_, _<_}
 use native.Mathlib.Nat.{one-mul}
-use native.Mathlib.Decide.{ℕ-discrete}
 use borrow.Author.Tests.{eq-eqb, ne-eqb}
 use lib.Dec.{eqb}
 use lib.ListN.{length, replicate}
-use Rattle.keys.specs.Ordered.{words, wellFormed}
-use Rattle.keys.proofs.Ordered.{words-pair, words-word}
+use Rattle.keys.specs.declared.kind.Kind.{Kind}
+use Rattle.keys.specs.Ordered.{words, isWide}
+use Rattle.keys.proofs.Ordered.{words-wide, words-word}
 use Rattle.pool.specs.declared.state.Head.{Head}
 use Rattle.pool.specs.declared.state.State.{State}
 use Rattle.pool.specs.World.{Links, World, world, worldOf}
 use Rattle.pool.specs.Fine.{Room, Ready}
 use Rattle.pool.specs.Core.{Moved, movedTo, constrainCore, freshNext, freshCore, freshState}
 use Rattle.pool.proofs.FreshPool.{length-fresh}
-use Rattle.engine.specs.Outcome.{Outcome, answered, refused, done}
+use Rattle.engine.specs.Outcome.{Outcome, answered, refused, done, unless, keyCode}
 use Rattle.engine.specs.Core.{pushCore, popCore, clearCore, clearToCore}
 use Rattle.heap.specs.Calls.{top, len}
+use Rattle.heap.proofs.CodeFresh.{told-off}
 use Rattle.batch.specs.declared.records.Record.{Record}
 use Rattle.batch.specs.declared.serving.Reply.{Reply}
 use Rattle.batch.specs.Records.{formed}
@@ -51,7 +52,7 @@ read-len h op n = rw (ne-eqb op 6 n)
 abbrev Laid : List ℕ → List ℕ → List ℕ → List ℕ → List ℕ → List ℕ → List ℕ → List ℕ → Type 0
 Laid keys values next back ks vs ns bs = (ks ≡ replicate (length keys) 0) × ((vs ≡ replicate (length values) 0) × ((ns ≡ freshNext 0 (length next)) × (bs ≡ replicate (length back) 0)))
 
-pub laid-fresh : {kind : ℕ} {keys values next back : List ℕ} → Pooled kind keys values next back → (t : Bool) (a b : ℕ) (s : State) (ks vs ns bs : List ℕ) → Laid keys values next back ks vs ns bs
+pub laid-fresh : {kind : Kind} {keys values next back : List ℕ} → Pooled kind keys values next back → (t : Bool) (a b : ℕ) (s : State) (ks vs ns bs : List ℕ) → Laid keys values next back ks vs ns bs
     → s ≡ freshState kind (length ns) t a b → worldOf s ks vs ns bs ≡ freshCore kind (length next) t a b
 unfolding freshState freshCore
 laid-fresh {kind} {keys} {values} {next} {back} p t a b s ks vs ns bs l e =
@@ -59,12 +60,12 @@ laid-fresh {kind} {keys} {values} {next} {back} p t a b s ks vs ns bs l e =
     rw (e, n, l .0, l .1 .0, l .1 .1 .0, l .1 .1 .1, p .words′, p .values′, p .backs)
 
 -- what is ready has slices of one size
-ready-words : {kind n : ℕ} {keys : List ℕ} → Room kind n keys → Dec (kind ≡ 4) → length keys ≡ words kind * n
-ready-words {kind} {n} m (yes e) = m .wide e ∙ ap (λ (x : ℕ). x * n) (sym words-pair ∙ ap words (sym e))
-ready-words {kind} {n} m (no q) = m .narrow q ∙ rw (words-word kind q, one-mul)
+ready-words : {kind : Kind} {n : ℕ} {keys : List ℕ} → Room kind n keys → (x : Bool) → isWide kind ≡ x → length keys ≡ words kind * n
+ready-words {kind} {n} m true e = m .wide e ∙ ap (λ (x : ℕ). x * n) (sym (words-wide kind e))
+ready-words {kind} {n} m false q = m .narrow q ∙ rw (words-word kind q, one-mul)
 
 pub ready-pooled : {h : Head} {k : Links} {keys values : List ℕ} → Ready h k keys values → (length (k .next) < 2 ^ 32) × Pooled (h .kind) keys values (k .next) (k .back)
-ready-pooled {h} r = (r .fine .small, record { words′ = ready-words (r .room) (ℕ-discrete (h .kind) 4); values′ = r .sized; backs = r .fine .backs })
+ready-pooled {h} r = (r .fine .small, record { words′ = ready-words (r .room) (isWide (h .kind)) refl; values′ = r .sized; backs = r .fine .backs })
 
 -- ---- the operations
 
@@ -73,12 +74,12 @@ unfolding clearCore done
 clear-fresh w e = ap (λ (u : World). done u 0) e
 
 module _ (w : World) (a b : ℕ) where
-  pub clearTo-malformed : wellFormed (w .head .kind) b ≡ false → answered 5 w 0 false 0 0 0 0 ≡ clearToCore w a b
+  pub clearTo-malformed : (c : ℕ) → c ≡ keyCode (w .head .kind) a b → (c ≡ 0 → ⊥) → answered c w 0 false 0 0 0 0 ≡ clearToCore w a b
   unfolding clearToCore refused
-  clearTo-malformed m = rw (clearToCore, m)
+  clearTo-malformed c m n = told-off w c (keyCode (w .head .kind) a b) m n _
 
-  pub clearTo-fresh : wellFormed (w .head .kind) b ≡ true → {u : World} → u ≡ freshCore (w .head .kind) (length (w .links .next)) true a b → answered 0 u 0 false 0 0 0 0 ≡ clearToCore w a b
-  unfolding clearToCore done
+  pub clearTo-fresh : keyCode (w .head .kind) a b ≡ 0 → {u : World} → u ≡ freshCore (w .head .kind) (length (w .links .next)) true a b → answered 0 u 0 false 0 0 0 0 ≡ clearToCore w a b
+  unfolding clearToCore done unless
   clearTo-fresh m e = rw (clearToCore, m) (ap (λ (u : World). done u 0) e)
 
 module _ (w : World) (r : Record) where

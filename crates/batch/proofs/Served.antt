@@ -3,16 +3,16 @@ use mathlib.Core.Path.{_≡_, refl, sym, subst}
 use mathlib.Core.Bool.{Bool, true, false, cond}
 use mathlib.Core.List.{List, [], _∷_}
 use mathlib.Core.Option.{Option, none, some}
-use Prim.Native.Nat.{ℕ}
+use Prim.Native.Nat.{ℕ, zero, suc}
 use lib.Dec.{eqb}
 use lib.ListN.{length}
 use Rattle.rule.specs.Rule.{Step, keep, constrain as ruleConstrain, pop as rulePop}
-use Rattle.keys.specs.Ordered.{width, ordered, wellFormed}
+use Rattle.keys.specs.Ordered.{width, ordered}
 use Rattle.pool.specs.World.{freeChain, World, size, chain, keyAt, topKey, within}
 use Rattle.pool.specs.Sound.{Whole}
 use Rattle.pool.specs.Lay.{heap, nextIn, lay, fresh, headAfter}
 use Rattle.pool.proofs.Chains.{length-tab}
-use Rattle.engine.specs.Outcome.{Outcome, refused, done, given}
+use Rattle.engine.specs.Outcome.{Outcome, refused, done, given, unless, keyCode}
 use Rattle.heap.specs.Calls.{pushInto, push, constrain, popOut, pop, clear, clearTo, top, len}
 use Rattle.heap.proofs.Calls.{push-by, push-core, push-whole, pop-core, pop-whole, constrain-core, constrain-whole, clear-core, clear-whole, clearTo-core, clearTo-whole, top-whole, len-whole}
 use Rattle.batch.specs.declared.records.Record.{Record}
@@ -80,12 +80,13 @@ into-keeps w a b v [] = refused-keeps w 7
 into-keeps w a b v (s ∷ free) = record { kind = refl; slots = laid _ (size w) }
 
 push-keeps : (w : World) (a b v : ℕ) → Keeps w (push w a b v)
-push-keeps w a b v = go (wellFormed (w .head .kind) b) (within (w .head .topped) (ordered (w .head .kind) a b) (topKey w)) refl refl
+unfolding unless
+push-keeps w a b v = go (keyCode (w .head .kind) a b) (within (w .head .topped) (ordered (w .head .kind) a b) (topKey w)) refl refl
   where
-    go : (x y : Bool) → wellFormed (w .head .kind) b ≡ x → within (w .head .topped) (ordered (w .head .kind) a b) (topKey w) ≡ y → Keeps w (push w a b v)
-    go false y p q = subst (Keeps w) (sym (push-by w a b v false y p q)) (refused-keeps w 5)
-    go true false p q = subst (Keeps w) (sym (push-by w a b v true false p q)) (refused-keeps w 6)
-    go true true p q = subst (Keeps w) (sym (push-by w a b v true true p q)) (into-keeps w a b v (chain w freeChain))
+    go : (x : ℕ) (y : Bool) → keyCode (w .head .kind) a b ≡ x → within (w .head .topped) (ordered (w .head .kind) a b) (topKey w) ≡ y → Keeps w (push w a b v)
+    go (suc c) y p q = subst (Keeps w) (sym (push-by w a b v (suc c) y p q)) (refused-keeps w (suc c))
+    go zero false p q = subst (Keeps w) (sym (push-by w a b v 0 false p q)) (refused-keeps w 6)
+    go zero true p q = subst (Keeps w) (sym (push-by w a b v 0 true p q)) (into-keeps w a b v (chain w freeChain))
 
 after-kind : (w : World) (moved : List ℕ) → headAfter w moved .kind ≡ w .head .kind
 unfolding headAfter
@@ -110,12 +111,12 @@ unfolding fresh done
 fresh-keeps w t a b = record { kind = refl; slots = laid _ (size w) }
 
 to-keeps : (w : World) (a b : ℕ) → Keeps w (clearTo w a b)
-unfolding clearTo
-to-keeps w a b = go (wellFormed (w .head .kind) b)
+unfolding clearTo unless
+to-keeps w a b = go (keyCode (w .head .kind) a b)
   where
-    go : (x : Bool) → Keeps w (elim x as (λ z. Outcome) [ false ↦ refused w 5 | true ↦ done (fresh (w .head .kind) (size w) true a b) 0 ])
-    go false = refused-keeps w 5
-    go true = fresh-keeps w true a b
+    go : (x : ℕ) → Keeps w (unless x w (done (fresh (w .head .kind) (size w) true a b) 0))
+    go (suc c) = refused-keeps w (suc c)
+    go zero = fresh-keeps w true a b
 
 -- any record, any world
 pub served-keeps : (w : World) (r : Record) → Kept w (served w r .world)

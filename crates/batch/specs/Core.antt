@@ -3,6 +3,7 @@ use mathlib.Core.Bool.{false, cond}
 use mathlib.Core.List.{List}
 use mathlib.Core.Path.{_≡_}
 use lib.ListN.{length}
+use Rattle.keys.specs.declared.kind.Kind.{Kind}
 use Rattle.keys.specs.Ordered.{words}
 use Rattle.pool.specs.declared.state.Head.{Head}
 use Rattle.batch.specs.declared.serving.Reply.{Reply}
@@ -19,7 +20,7 @@ use Rattle.batch.specs.Records.{recordAt, formed}
 use Rattle.batch.specs.Batch.{served, answerOf}
 
 -- slices of one size: n values, next and back links, and as many key words as n slots of the kind have
-pub record Pooled (kind : ℕ) (keys values next back : List ℕ) : Type 0 where
+pub record Pooled (kind : Kind) (keys values next back : List ℕ) : Type 0 where
   pub words′ : length keys ≡ words kind * length next
   pub values′ : length values ≡ length next
   pub backs : length back ≡ length next

@@ -5,6 +5,7 @@ use mathlib.Core.List.{List, [], _∷_}
 use Prim.Native.Nat.{ℕ, zero, suc, _+_}
 use lib.Dec.{eqb}
 use lib.ListN.{getD}
+use Rattle.keys.specs.declared.kind.Kind.{Kind}
 use Rattle.keys.specs.Ordered.{wellFormed}
 use Rattle.batch.specs.declared.records.Record.{Record}
 use Rattle.batch.specs.Bytes.{number}
@@ -29,11 +30,11 @@ abbrev pub bare : Record → Bool
 bare r = eqb (r .key0) 0 && eqb (r .key1) 0 && eqb (r .value) 0
 
 -- "unknown operation or a field not zero that must be" is code 5: the fields that each operation uses
-unfoldable pub fieldsFit : ℕ → Record → Bool
+unfoldable pub fieldsFit : Kind → Record → Bool
 fieldsFit kind r =
-    cond (eqb (r .op) 1) (wellFormed kind (r .key1))
-    (cond (eqb (r .op) 5) (wellFormed kind (r .key1) && eqb (r .value) 0)
+    cond (eqb (r .op) 1) (wellFormed kind (r .key0) (r .key1))
+    (cond (eqb (r .op) 5) (wellFormed kind (r .key0) (r .key1) && eqb (r .value) 0)
     ((eqb (r .op) 2 || eqb (r .op) 3 || eqb (r .op) 4 || eqb (r .op) 6 || eqb (r .op) 7) && bare r))
 
-unfoldable pub formed : ℕ → Record → Bool
+unfoldable pub formed : Kind → Record → Bool
 formed kind r = r .rest && fieldsFit kind r

@@ -1,5 +1,6 @@
 // A record: the operation, two key words and a value.
 use crate::bytes::read_word;
+use keys::Kind;
 ghost use mathlib.Core.Path.{_≡_};
 ghost use Prim.Native.Nat.{_+_, _≤_};
 ghost use lib.ListN.{length};
@@ -37,19 +38,19 @@ fn is_bare(r: Record) -> bool
 }
 
 // Are the fields that the operation does not use zero, and is the operation known?
-fn fields_fit(kind: u32, r: Record) -> bool
+fn fields_fit(kind: Kind, r: Record) -> bool
     ensures { λ r′. ⌜ r′ ≡ fieldsFit kind r ⌝ }
 {
     let op = r.op;
     match op {
-        1 => keys::well_formed(kind, r.key1),
-        5 => keys::well_formed(kind, r.key1) && r.value == 0,
+        1 => keys::well_formed(kind, r.key0, r.key1),
+        5 => keys::well_formed(kind, r.key0, r.key1) && r.value == 0,
         2 | 3 | 4 | 6 | 7 => is_bare(r),
         _ => false,
     }
 }
 
-pub fn is_formed(kind: u32, r: Record) -> bool
+pub fn is_formed(kind: Kind, r: Record) -> bool
     ensures { λ r′. ⌜ r′ ≡ formed kind r ⌝ }
 {
     if r.rest {

@@ -1,6 +1,7 @@
 // One record served, on references.
 use crate::records::Record;
 use crate::records::is_formed;
+use keys::Kind;
 use pool::Head;
 ghost use mathlib.Core.Path.{_≡_};
 ghost use mathlib.Core.Bool.{false};
@@ -50,7 +51,7 @@ fn reset(
     values: &mut [u64],
     next: &mut [u32],
     back: &mut [u32],
-    kind: u32,
+    kind: Kind,
     topped: bool,
     top0: u64,
     top1: u64,
@@ -220,8 +221,9 @@ fn clear_to(
     requires { ⌜ Ready head (links (now first) (now last) (now next) (now back) (now busy)) (now keys) (now values) ⌝ }
     ensures { λ s. ⌜ answered (s .code) (world (s .head) (links (now (first .exit)) (now (last .exit)) (now (next .exit)) (now (back .exit)) (now (busy .exit))) (now (keys .exit)) (now (values .exit))) (s .moves) (s .present) (s .key0) (s .key1) (s .value) (s .count) ≡ clearToCore (world head (links (now (first .entry)) (now (last .entry)) (now (next .entry)) (now (back .entry)) (now (busy .entry))) (now (keys .entry)) (now (values .entry))) key0 key1 ⌝ }
 {
-    if !keys::well_formed(head.kind, key1) {
-        return bare(pool::MALFORMED, head, 0);
+    let told = engine::key_code(head.kind, key0, key1);
+    if told != 0 {
+        return bare(told, head, 0);
     }
     let fresh = reset(
         first,

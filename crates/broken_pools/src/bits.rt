@@ -2,9 +2,14 @@
 // zero".
 use crate::sample::Sample;
 use crate::sample::examine;
+use crate::sample::is_wide;
 use crate::sample::words;
 use crate::shown::line;
 use crate::shown::show;
+use keys::Kind;
+use keys::REVERSED;
+use keys::SIGNED;
+use keys::Table;
 use pool::FREE;
 use pool::Head;
 
@@ -15,13 +20,24 @@ const HALF: u64 = 9223372036854775808;
 
 const BOTH: u64 = 13835058055282163712;
 
-// The top, and keys at distances 63 and 64 from it; of pairs also at 127 and 128.
+// Kind 5 uses all the buckets only by a table of 128 bits: here a signed word, and then a reversed one.
+fn kind_of_ends(number: u32) -> Kind {
+    if number == 5 {
+        Kind::mixed(Table::of(64 + SIGNED, 64 + REVERSED, 0, 0))
+    } else {
+        Kind::bare(number)
+    }
+}
+
+// The top, and keys at distances 63 and 64 from it; of two words also at 127 and 128. The first words
+// of kind 5 are those of kind 2, and the second words those of kind 3.
 fn keys(kind: u32) -> [u64; 10] {
     match kind {
         1 => [BOTH, HALF, 1, 0, 0, 0, 0, 0, 0, 0],
         2 => [QUARTER, 0, HALF, 0, 0, 0, 0, 0, 0, 0],
         3 => [0, QUARTER, HALF, 0, 0, 0, 0, 0, 0, 0],
-        _ => [BOTH, BOTH, BOTH, HALF, BOTH, 1, HALF, 7, 1, 7],
+        4 => [BOTH, BOTH, BOTH, HALF, BOTH, 1, HALF, 7, 1, 7],
+        _ => [QUARTER, 0, QUARTER, QUARTER, QUARTER, HALF, 0, 7, HALF, 7],
     }
 }
 
@@ -30,7 +46,7 @@ fn ends_of_words(kind: u32) -> Sample {
     let k = keys(kind);
     let mut s = Sample {
         head: Head {
-            kind,
+            kind: kind_of_ends(kind),
             len: 3,
             topped: true,
             top0: k[0],
@@ -55,9 +71,9 @@ fn ends_of_words(kind: u32) -> Sample {
     s
 }
 
-// and of pairs in 127 and 128 too: no slot is free.
-fn ends_of_pairs() -> Sample {
-    let mut s = ends_of_words(4);
+// and of two words in 127 and 128 too: no slot is free.
+fn ends_of_pairs(kind: u32) -> Sample {
+    let mut s = ends_of_words(kind);
     s.head.len = 5;
     s.head.top1 = s.keys[1];
     s.first[127] = 4;
@@ -73,8 +89,8 @@ fn ends_of_pairs() -> Sample {
 }
 
 fn ends(kind: u32) -> Sample {
-    if kind == 4 {
-        ends_of_pairs()
+    if is_wide(kind) {
+        ends_of_pairs(kind)
     } else {
         ends_of_words(kind)
     }
@@ -114,7 +130,7 @@ pub fn each_word(kind: u32) {
     show(b"busy bit 0 not set", turned(kind, 0));
     show(b"busy bit 63 not set", turned(kind, 63));
     show(b"busy bit 64 not set", turned(kind, 64));
-    if kind == 4 {
+    if is_wide(kind) {
         show(b"busy bit 127 not set", turned(kind, 127));
         show(b"busy bit 128 not set", turned(kind, 128));
     } else {

@@ -2,13 +2,16 @@
 use crate::sample::Sample;
 use crate::sample::bucket;
 use crate::sample::examine;
+use crate::sample::is_wide;
 use crate::sample::part;
 use crate::sample::waiting;
 use crate::sample::with_top;
 use crate::sample::words;
 use crate::shown::line;
 use crate::shown::show;
+use keys::Kind;
 use pool::FREE;
+use pool::Head;
 use pool::State;
 use pool::WAITING;
 ghost use Prim.Native.Nat.{_<_};
@@ -122,7 +125,7 @@ fn above(kind: u32) {
     s.last[0] = 3;
     s.first[b] = 1;
     s.last[b] = 2;
-    if kind == 4 {
+    if is_wide(kind) {
         s.head.top0 = s.keys[4];
         s.head.top1 = s.keys[5];
     } else {
@@ -134,7 +137,7 @@ fn above(kind: u32) {
 // "Free slots hold zero key and value".
 pub fn free(kind: u32) {
     let mut s = with_top(kind);
-    if kind == 4 {
+    if is_wide(kind) {
         s.keys[8] = 1;
     } else {
         s.keys[4] = 1;
@@ -143,14 +146,14 @@ pub fn free(kind: u32) {
     let mut s = with_top(kind);
     s.values[4] = 1;
     show(b"a free slot with a value", s);
-    if kind != 4 {
+    if !is_wide(kind) {
         let mut s = with_top(kind);
         s.head.top1 = 1;
         show(b"a second top word", s);
     }
 }
 
-// Code 1: "kind not 1 to 4, slice lengths unfit".
+// Code 1: a kind that is not 1 to 5, and "slice lengths unfit". Kind 5 is set with no table.
 pub fn unfit(kind: u32) {
     let k = words(kind);
     let s = with_top(kind);
@@ -159,18 +162,31 @@ pub fn unfit(kind: u32) {
     line(kind, b"a next link short", examine(s, k, 5, 4, 5));
     line(kind, b"a back link short", examine(s, k, 5, 5, 4));
     let mut t = s;
-    t.head.kind = 0;
+    t.head = of_kind(s.head, 0);
     line(kind, b"the kind set to 0", examine(t, k, 5, 5, 5));
-    t.head.kind = 5;
+    t.head = of_kind(s.head, 5);
     line(kind, b"the kind set to 5", examine(t, k, 5, 5, 5));
+    t.head = of_kind(s.head, 6);
+    line(kind, b"the kind set to 6", examine(t, k, 5, 5, 5));
 }
 
-// What only pairs can break: their second words.
-pub fn only_of_pairs() {
-    let mut s = waiting(4);
+// The head with another kind, and no table.
+fn of_kind(head: Head, number: u32) -> Head {
+    Head {
+        kind: Kind::bare(number),
+        len: head.len,
+        topped: head.topped,
+        top0: head.top0,
+        top1: head.top1,
+    }
+}
+
+// What only keys of two words can break: their second words.
+pub fn second_words(kind: u32) {
+    let mut s = waiting(kind);
     s.head.top1 = 1;
     show(b"no top, a second top word", s);
-    let mut s = with_top(4);
+    let mut s = with_top(kind);
     s.keys[9] = 1;
     show(b"a free slot with a second key word", s);
 }

@@ -2,8 +2,10 @@
 // every kind of key. A line for each, with its code: 0 sound, 1 not fit, 2 not sound.
 mod bits;
 mod clauses;
+mod mixed;
 mod sample;
 mod shown;
+mod tables;
 
 fn kind(k: u32) {
     clauses::sound(k);
@@ -16,11 +18,32 @@ fn kind(k: u32) {
     clauses::unfit(k);
 }
 
+// Kinds 1 to 4 have no table.
+fn bare_kind(k: u32) {
+    kind(k);
+    tables::in_another_kind(k);
+}
+
+fn mixed_kind() {
+    kind(5);
+    clauses::second_words(5);
+    tables::number_of_parts();
+    tables::size_of_parts();
+    tables::each_code();
+    mixed::sound();
+    mixed::sorts();
+    mixed::above_the_total();
+    mixed::words();
+    mixed::each_bit_of_a_key();
+    mixed::each_bit_of_a_top();
+}
+
 fn main() {
-    kind(1);
-    kind(2);
-    kind(3);
-    kind(4);
-    clauses::only_of_pairs();
+    bare_kind(1);
+    bare_kind(2);
+    bare_kind(3);
+    bare_kind(4);
+    clauses::second_words(4);
+    mixed_kind();
     clauses::too_many_slots();
 }

@@ -1,4 +1,7 @@
 // Sound pools of five slots, laid out by hand: slots 0, 1 and 2 hold entries, 3 and 4 are free.
+use keys::Kind;
+use keys::REVERSED;
+use keys::Table;
 use pool::Head;
 use pool::State;
 ghost use Prim.Native.Nat.{_<_};
@@ -15,17 +18,46 @@ pub struct Sample {
     pub back: [u32; 5],
 }
 
-// How many key words five slots have.
-pub fn words(kind: u32) -> usize {
-    if kind == 4 { 10 } else { 5 }
+// The planning desk's table: a day of 32 bits, a road of 16 and a reversed priority of 8, 56 bits
+// together, so that its keys lie in the second word.
+pub fn planning() -> Table {
+    Table::of(32, 16, 8 + REVERSED, 0)
 }
 
-// The words of three keys: two that are equal, the top, and a lower one. Kind 3 is reversed, so that
-// its lower key is the greater number.
+// Day 3, road 2, priority 8: 3 * 2 ^ 24 + 2 * 2 ^ 8 + 8; and the same with priority 15.
+const URGENT: u64 = 50332168;
+
+const LATER: u64 = 50332175;
+
+// The kind with this number: in kind 5 by the planning desk's table.
+pub fn kind_of(number: u32) -> Kind {
+    if number == 5 {
+        Kind::mixed(planning())
+    } else {
+        Kind::bare(number)
+    }
+}
+
+// Does a key take two words?
+pub fn is_wide(kind: u32) -> bool {
+    if kind == 4 {
+        return true;
+    }
+    kind == 5
+}
+
+// How many key words five slots have.
+pub fn words(kind: u32) -> usize {
+    if is_wide(kind) { 10 } else { 5 }
+}
+
+// The words of three keys: two that are equal, the top, and a lower one. Kind 3 is reversed, and so is
+// the last part of kind 5, so that their lower key is the greater number.
 pub fn keys(kind: u32) -> [u64; 10] {
     match kind {
         3 => [8, 8, 15, 0, 0, 0, 0, 0, 0, 0],
         4 => [8, 5, 8, 5, 7, 9, 0, 0, 0, 0],
+        5 => [0, URGENT, 0, URGENT, 0, LATER, 0, 0, 0, 0],
         _ => [8, 8, 7, 0, 0, 0, 0, 0, 0, 0],
     }
 }
@@ -37,6 +69,7 @@ pub fn bucket(kind: u32) -> usize
     match kind {
         3 => 3,
         4 => 68,
+        5 => 3,
         _ => 4,
     }
 }
@@ -46,12 +79,21 @@ pub fn busy(kind: u32) -> [u64; 3] {
     match kind {
         3 => [9, 0, 0],
         4 => [1, 16, 0],
+        5 => [9, 0, 0],
         _ => [17, 0, 0],
     }
 }
 
+pub fn top0(kind: u32) -> u64 {
+    if kind == 5 { 0 } else { 8 }
+}
+
 pub fn top1(kind: u32) -> u64 {
-    if kind == 4 { 5 } else { 0 }
+    match kind {
+        4 => 5,
+        5 => URGENT,
+        _ => 0,
+    }
 }
 
 // With a top: the two equal keys in bucket 0, the lower one in its own.
@@ -67,10 +109,10 @@ pub fn with_top(kind: u32) -> Sample {
     last[b] = 3;
     Sample {
         head: Head {
-            kind,
+            kind: kind_of(kind),
             len: 3,
             topped: true,
-            top0: 8,
+            top0: top0(kind),
             top1: top1(kind),
         },
         first,
@@ -93,7 +135,7 @@ pub fn waiting(kind: u32) -> Sample {
     last[pool::FREE] = 5;
     Sample {
         head: Head {
-            kind,
+            kind: kind_of(kind),
             len: 3,
             topped: false,
             top0: 0,

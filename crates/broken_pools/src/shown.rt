@@ -14,6 +14,6 @@ pub fn line(kind: u32, text: &[u8], code: u8) {
 }
 
 pub fn show(text: &[u8], s: Sample) {
-    let kind = s.head.kind;
+    let kind = s.head.kind.number;
     line(kind, text, examine(s, words(kind), 5, 5, 5));
 }

@@ -8,15 +8,16 @@ use native.Mathlib.Omega.{arith}
 use borrow.Author.Tests.{eq-eqb, ne-eqb}
 use lib.Dec.{eqb}
 use lib.ListN.{length}
-use Rattle.keys.specs.Ordered.{ordered, wellFormed}
+use Rattle.keys.specs.Ordered.{ordered}
 use Rattle.pool.specs.declared.state.Head.{Head}
 use Rattle.pool.specs.World.{freeChain, World, resized, topKey, size, chain, within}
 use Rattle.pool.specs.Sound.{Whole}
 use Rattle.pool.proofs.Follows.{examined-whole, free-len}
-use Rattle.engine.specs.Outcome.{Outcome, refused, done}
+use Rattle.engine.specs.Outcome.{Outcome, refused, done, keyCode}
 use Rattle.engine.specs.Core.{pushCode}
+use Rattle.engine.proofs.CodePush.{code-key, code-past}
 use Rattle.heap.specs.Calls.{push, pushInto}
-use Rattle.heap.proofs.Calls.{push-5, push-6, push-free, push-follows, push-core, push-whole}
+use Rattle.heap.proofs.Calls.{push-key, push-6, push-free, push-follows, push-core, push-whole}
 use Rattle.bulk.specs.declared.Entry.{Entry}
 use Rattle.bulk.specs.Bulk.{Bulk, bulk, pushEach, kept, extend, bulkUnless, extended}
 use Rattle.bulk.specs.Core.{pushAll}
@@ -40,17 +41,14 @@ tested h free i (e ∷ es) = elim (pushCode h free (e .key0) (e .key1)) [ zero �
 
 -- what a push is told where so many slots are free
 module _ (h : Head) (f a b : ℕ) where
-  told-5 : wellFormed (h .kind) b ≡ false → pushCode h f a b ≡ 5
-  unfolding pushCode
-  told-5 p = rw p
+  told-key : (c : ℕ) → keyCode (h .kind) a b ≡ suc c → pushCode h f a b ≡ suc c
+  told-key c p = sym (code-key h f a b (suc c) (sym p) (λ z. absurd (omega arith)))
 
-  told-6 : wellFormed (h .kind) b ≡ true → within (h .topped) (ordered (h .kind) a b) (ordered (h .kind) (h .top0) (h .top1)) ≡ false → pushCode h f a b ≡ 6
-  unfolding pushCode
-  told-6 p q = rw (p, q)
+  told-6 : keyCode (h .kind) a b ≡ 0 → within (h .topped) (ordered (h .kind) a b) (ordered (h .kind) (h .top0) (h .top1)) ≡ false → pushCode h f a b ≡ 6
+  told-6 p q = rw (code-past h f a b p, q)
 
-  told-free : wellFormed (h .kind) b ≡ true → within (h .topped) (ordered (h .kind) a b) (ordered (h .kind) (h .top0) (h .top1)) ≡ true → pushCode h f a b ≡ cond (eqb f 0) 7 0
-  unfolding pushCode
-  told-free p q = rw (p, q)
+  told-free : keyCode (h .kind) a b ≡ 0 → within (h .topped) (ordered (h .kind) a b) (ordered (h .kind) (h .top0) (h .top1)) ≡ true → pushCode h f a b ≡ cond (eqb f 0) 7 0
+  told-free p q = rw (code-past h f a b p, q)
 
 -- a push that is taken: kind and top stay, and one slot less is free; and one that is refused
 record Takes (w : World) (f a b v : ℕ) : Type 0 where
@@ -65,7 +63,7 @@ record Refuses (w : World) (f a b v : ℕ) : Type 0 where
   told : pushCode (w .head) f a b ≡ suc less
 
 module _ {w : World} (h : Whole w) (f a b v : ℕ) (free : f ≡ length (chain w freeChain)) where
-  step-free : wellFormed (w .head .kind) b ≡ true → within (w .head .topped) (ordered (w .head .kind) a b) (topKey w) ≡ true → (l : List ℕ) → chain w freeChain ≡ l → Takes w f a b v ⊎ Refuses w f a b v
+  step-free : keyCode (w .head .kind) a b ≡ 0 → within (w .head .topped) (ordered (w .head .kind) a b) (topKey w) ≡ true → (l : List ℕ) → chain w freeChain ≡ l → Takes w f a b v ⊎ Refuses w f a b v
   unfolding pushInto done refused
   step-free p q [] e = inr (record {
     less = 6;
@@ -85,12 +83,12 @@ module _ {w : World} (h : Whole w) (f a b v : ℕ) (free : f ≡ length (chain w
 
   step : Takes w f a b v ⊎ Refuses w f a b v
   unfolding refused
-  step = go (wellFormed (w .head .kind) b) (within (w .head .topped) (ordered (w .head .kind) a b) (topKey w)) refl refl
+  step = go (keyCode (w .head .kind) a b) (within (w .head .topped) (ordered (w .head .kind) a b) (topKey w)) refl refl
     where
-      go : (x y : Bool) → wellFormed (w .head .kind) b ≡ x → within (w .head .topped) (ordered (w .head .kind) a b) (topKey w) ≡ y → Takes w f a b v ⊎ Refuses w f a b v
-      go false y p q = inr (record { less = 4; code = ap (λ (o : Outcome). o .code) (push-5 w a b v p); told = told-5 (w .head) f a b p })
-      go true false p q = inr (record { less = 5; code = ap (λ (o : Outcome). o .code) (push-6 w a b v p q); told = told-6 (w .head) f a b p q })
-      go true true p q = step-free p q (chain w freeChain) refl
+      go : (x : ℕ) (y : Bool) → keyCode (w .head .kind) a b ≡ x → within (w .head .topped) (ordered (w .head .kind) a b) (topKey w) ≡ y → Takes w f a b v ⊎ Refuses w f a b v
+      go (suc c) y p q = inr (record { less = c; code = ap (λ (o : Outcome). o .code) (push-key w a b v c p); told = told-key (w .head) f a b c p })
+      go zero false p q = inr (record { less = 5; code = ap (λ (o : Outcome). o .code) (push-6 w a b v p q); told = told-6 (w .head) f a b p q })
+      go zero true p q = step-free p q (chain w freeChain) refl
 
 -- ---- all entries
 

@@ -5,6 +5,7 @@ use mathlib.Core.List.{List}
 use native.Mathlib.Omega.{arith}
 use native.Mathlib.Numerals.{sub-one}
 use lib.ListN.{length, getD, set}
+use Rattle.keys.specs.declared.kind.Kind.{Kind}
 use Rattle.pool.specs.World.{waitingChain, keyWord0, keyWord1, storeKey}
 use Rattle.pool.specs.Fine.{Holds}
 use Rattle.engine.specs.Core.{Written, wrote, written, listFrom, listChain, listChains, listEntries}
@@ -13,14 +14,14 @@ use Rattle.engine.specs.Room.{Roomy}
 -- ---- room
 
 -- a list that is as long has as much room: for so many entries, and so for one of them
-module _ {kind len : ℕ} {ks vs : List ℕ} (r : Roomy kind len ks vs) where
+module _ {kind : Kind} {len : ℕ} {ks vs : List ℕ} (r : Roomy kind len ks vs) where
   pub roomy-as : {ls us : List ℕ} → length ls ≡ length ks → length us ≡ length vs → Roomy kind len ls us
   roomy-as e f = record { wide = λ k. omega (arith, r .wide k); narrow = λ q. omega (arith, r .narrow q); values = omega arith }
 
   pub roomy-holds : {ls : List ℕ} (i : ℕ) → length ls ≡ length ks → i < len → Holds kind ls i
   roomy-holds i e h = record { wide = λ k. omega (arith, r .wide k); narrow = λ q. omega (arith, r .narrow q) }
 
-module _ (kind len : ℕ) (keys values next : List ℕ) where
+module _ (kind : Kind) (len : ℕ) (keys values next : List ℕ) where
   from-low : (m at : ℕ) (o : Written) → o .count + m ≤ len → listFrom m kind keys values next at o .count ≤ len
   unfolding listFrom
   from-low zero at o l = omega arith

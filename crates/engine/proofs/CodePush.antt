@@ -8,7 +8,8 @@ use borrow.Author.Tests.{ltb-true, ltb-false, le-leb, lt-leb, eq-eqb, ne-eqb}
 use lib.Dec.{ltb, eqb}
 use lib.ListN.{length, getD, set}
 use Rattle.rule.specs.Width.{distance}
-use Rattle.keys.specs.Ordered.{width, ordered, wellFormed}
+use Rattle.keys.specs.Ordered.{width, ordered, wellFormed, proper}
+use Rattle.keys.specs.declared.kind.Kind.{Kind}
 use Rattle.pool.specs.declared.state.Head.{Head}
 use Rattle.pool.specs.World.{waitingChain, freeChain, chainCount, Links, World, world, resized, storeKey, topOf, place, within}
 use Rattle.pool.specs.Sound.{limit}
@@ -16,8 +17,8 @@ use Rattle.pool.specs.Fine.{FineAt, Fine, Ready}
 use Rattle.pool.specs.Core.{appended, unhooked, Unhooked, off, freeTaken, placeIn, entered}
 use Rattle.pool.proofs.Fine.{unhooked-fine, fine-of}
 use Rattle.pool.proofs.Push.{place-lt}
-use Rattle.engine.specs.Outcome.{Outcome, answered, refused, done, unless}
-use Rattle.engine.specs.Core.{pushCode, pushCore}
+use Rattle.engine.specs.Outcome.{Outcome, answered, refused, done, unless, keyCode}
+use Rattle.engine.specs.Core.{orElse, pushCode, pushCore}
 
 -- ---- the code
 
@@ -34,33 +35,58 @@ above-top : (topped : Bool) (k t : ℕ) → topped ≡ true → ltb t k ≡ true
 unfolding within
 above-top topped k t e l = rw e (lt-leb k t (ltb-true t k l))
 
+module _ (kind : Kind) (a b : ℕ) where
+  pub key-malformed : wellFormed kind a b ≡ false → 5 ≡ keyCode kind a b
+  unfolding keyCode
+  key-malformed e = rw e
+
+  pub key-done : wellFormed kind a b ≡ true → 0 ≡ keyCode kind a b
+  unfolding keyCode
+  key-done e = rw e
+
+  -- a key that is told nothing may stand in a pool
+  pub key-proper : keyCode kind a b ≡ 0 → proper kind a b ≡ true
+  unfolding keyCode proper
+  key-proper = go (wellFormed kind a b)
+    where
+      go : (x : Bool) → _≡_ {A = ℕ} (cond x 0 5) 0 → x ≡ true
+      go true e = refl
+      go false e = absurd (omega arith)
+
 module _ (h : Head) (f a b : ℕ) where
-  pub code-malformed : wellFormed (h .kind) b ≡ false → 5 ≡ pushCode h f a b
+  -- what the key is told, where that is not 0
+  pub code-key : (c : ℕ) → c ≡ keyCode (h .kind) a b → (c ≡ 0 → ⊥) → c ≡ pushCode h f a b
   unfolding pushCode
-  code-malformed e = rw e
+  code-key c e n = go c n (cond (within (h .topped) (ordered (h .kind) a b) (topOf h)) (cond (eqb f 0) 7 0) 6) ∙ ap (λ (x : ℕ). orElse x (cond (within (h .topped) (ordered (h .kind) a b) (topOf h)) (cond (eqb f 0) 7 0) 6)) e
+    where
+      go : (x : ℕ) → (x ≡ 0 → ⊥) → (d : ℕ) → x ≡ orElse x d
+      go zero z d = absurd (z refl)
+      go (suc x) z d = refl
 
-  pub code-above : wellFormed (h .kind) b ≡ true → h .topped ≡ true → ltb (topOf h) (ordered (h .kind) a b) ≡ true → 6 ≡ pushCode h f a b
+  -- and where it is 0
+  pub code-past : keyCode (h .kind) a b ≡ 0 → pushCode h f a b ≡ cond (within (h .topped) (ordered (h .kind) a b) (topOf h)) (cond (eqb f 0) 7 0) 6
   unfolding pushCode
-  code-above e p l = rw (e, above-top (h .topped) (ordered (h .kind) a b) (topOf h) p l)
+  code-past e = ap (λ (x : ℕ). orElse x (cond (within (h .topped) (ordered (h .kind) a b) (topOf h)) (cond (eqb f 0) 7 0) 6)) e
 
-  pub code-full : wellFormed (h .kind) b ≡ true → within (h .topped) (ordered (h .kind) a b) (topOf h) ≡ true → f ≡ 0 → 7 ≡ pushCode h f a b
-  unfolding pushCode
-  code-full e i z = rw (e, i, eq-eqb f 0 z)
+  pub code-above : keyCode (h .kind) a b ≡ 0 → h .topped ≡ true → ltb (topOf h) (ordered (h .kind) a b) ≡ true → 6 ≡ pushCode h f a b
+  code-above e p l = rw (code-past e, above-top (h .topped) (ordered (h .kind) a b) (topOf h) p l)
 
-  pub code-done : wellFormed (h .kind) b ≡ true → within (h .topped) (ordered (h .kind) a b) (topOf h) ≡ true → (f ≡ 0 → ⊥) → 0 ≡ pushCode h f a b
-  unfolding pushCode
-  code-done e i z = rw (e, i, ne-eqb f 0 z)
+  pub code-full : keyCode (h .kind) a b ≡ 0 → within (h .topped) (ordered (h .kind) a b) (topOf h) ≡ true → f ≡ 0 → 7 ≡ pushCode h f a b
+  code-full e i z = rw (code-past e, i, eq-eqb f 0 z)
+
+  pub code-done : keyCode (h .kind) a b ≡ 0 → within (h .topped) (ordered (h .kind) a b) (topOf h) ≡ true → (f ≡ 0 → ⊥) → 0 ≡ pushCode h f a b
+  code-done e i z = rw (code-past e, i, ne-eqb f 0 z)
 
   -- where the code is 0 there is a free slot
   pub code-free : pushCode h f a b ≡ 0 → 0 < f
   unfolding pushCode
-  code-free = go (wellFormed (h .kind) b) (within (h .topped) (ordered (h .kind) a b) (topOf h)) f
+  code-free = go (keyCode (h .kind) a b) (within (h .topped) (ordered (h .kind) a b) (topOf h)) f
     where
-      go : (x y : Bool) (l : ℕ) → _≡_ {A = ℕ} (cond x (cond y (cond (eqb l 0) 7 0) 6) 5) 0 → 0 < l
-      go true true zero e = absurd (omega arith)
-      go true true (suc l) e = omega arith
-      go true false l e = absurd (omega arith)
-      go false y l e = absurd (omega arith)
+      go : (k : ℕ) (y : Bool) (l : ℕ) → orElse k (cond y (cond (eqb l 0) 7 0) 6) ≡ 0 → 0 < l
+      go (suc k) y l e = absurd (omega arith)
+      go zero true zero e = absurd (omega arith)
+      go zero true (suc l) e = omega arith
+      go zero false l e = absurd (omega arith)
 
 -- ---- the place
 

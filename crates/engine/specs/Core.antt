@@ -5,18 +5,26 @@ use mathlib.Core.List.{List}
 use Prim.Native.Nat.{ℕ, zero, suc, _+_, _-_}
 use lib.Dec.{eqb}
 use lib.ListN.{length, getD, set}
-use Rattle.keys.specs.Ordered.{ordered, wellFormed}
+use Rattle.keys.specs.Ordered.{ordered}
+use Rattle.keys.specs.Table.{bare}
+use Rattle.keys.specs.declared.kind.Kind.{Kind}
 use Rattle.pool.specs.declared.state.Head.{Head}
 use Rattle.pool.specs.World.{waitingChain, freeChain, World, blank, keyWord0, keyWord1, storeKey, topOf, within}
 use Rattle.pool.specs.Examine.{fitting}
 use Rattle.pool.specs.Core.{Moved, movedTo, Popped, entered, readied, popTail, freshCore}
-use Rattle.engine.specs.Outcome.{Outcome, Listing, listing, roomFor, refused, done, given, unless}
+use Rattle.engine.specs.Outcome.{Outcome, Listing, listing, roomFor, refused, done, given, unless, keyCode}
 
 -- ---- push and pop
 
+-- the first code that is not 0
+unfoldable pub orElse : ℕ → ℕ → ℕ
+orElse zero d = d
+orElse (suc c) d = suc c
+
 -- what a push is told, f being the link to the first free slot
 unfoldable pub pushCode : Head → ℕ → ℕ → ℕ → ℕ
-pushCode h f a b = cond (wellFormed (h .kind) b) (cond (within (h .topped) (ordered (h .kind) a b) (topOf h)) (cond (eqb f 0) 7 0) 6) 5
+unfolding orElse
+pushCode h f a b = orElse (keyCode (h .kind) a b) (cond (within (h .topped) (ordered (h .kind) a b) (topOf h)) (cond (eqb f 0) 7 0) 6)
 
 unfoldable pub pushCore : World → ℕ → ℕ → ℕ → Outcome
 unfolding unless done pushCode entered
@@ -45,22 +53,22 @@ unfolding done freshCore
 clearCore w = done (freshCore (w .head .kind) (length (w .links .next)) false 0 0) 0
 
 unfoldable pub clearToCore : World → ℕ → ℕ → Outcome
-unfolding refused done freshCore
-clearToCore w a b = elim (wellFormed (w .head .kind) b) [ false ↦ refused w 5 | true ↦ done (freshCore (w .head .kind) (length (w .links .next)) true a b) 0 ]
+unfolding unless keyCode done freshCore
+clearToCore w a b = unless (keyCode (w .head .kind) a b) w (done (freshCore (w .head .kind) (length (w .links .next)) true a b) 0)
 
 -- the two fresh calls, on any pool
-unfoldable pub madeCore : ℕ → List ℕ → List ℕ → List ℕ → List ℕ → Outcome
+unfoldable pub madeCore : Kind → List ℕ → List ℕ → List ℕ → List ℕ → Outcome
 unfolding blank refused done freshCore
 madeCore kind keys values next back = elim (fitting (blank kind keys values next back)) [
-  | false ↦ refused (blank 0 keys values next back) 1
+  | false ↦ refused (blank (bare 0) keys values next back) 1
   | true ↦ done (freshCore kind (length next) false 0 0) 0
 ]
 
-unfoldable pub madeAtCore : ℕ → ℕ → ℕ → List ℕ → List ℕ → List ℕ → List ℕ → Outcome
-unfolding blank refused done freshCore
+unfoldable pub madeAtCore : Kind → ℕ → ℕ → List ℕ → List ℕ → List ℕ → List ℕ → Outcome
+unfolding blank refused unless keyCode done freshCore
 madeAtCore kind a b keys values next back = elim (fitting (blank kind keys values next back)) [
-  | false ↦ refused (blank 0 keys values next back) 1
-  | true ↦ elim (wellFormed kind b) [ false ↦ refused (blank 0 keys values next back) 5 | true ↦ done (freshCore kind (length next) true a b) 0 ]
+  | false ↦ refused (blank (bare 0) keys values next back) 1
+  | true ↦ unless (keyCode kind a b) (blank (bare 0) keys values next back) (done (freshCore kind (length next) true a b) 0)
 ]
 
 -- ---- listing
@@ -74,7 +82,7 @@ abbrev pub wrote : List ℕ → List ℕ → ℕ → Written
 wrote ks vs n = record { keys = ks; values = vs; count = n }
 
 -- slot s is written to the next place of the two lent slices
-unfoldable pub written : ℕ → List ℕ → List ℕ → ℕ → Written → Written
+unfoldable pub written : Kind → List ℕ → List ℕ → ℕ → Written → Written
 written kind keys values s o = record {
   keys = storeKey kind (o .keys) (o .count) (keyWord0 kind keys s) (keyWord1 kind keys s);
   values = set (o .values) (o .count) (getD values s 0);
@@ -82,24 +90,24 @@ written kind keys values s o = record {
 }
 
 -- the slots from the link `at` on, in at most m turns
-unfoldable pub listFrom : ℕ → ℕ → List ℕ → List ℕ → List ℕ → ℕ → Written → Written
+unfoldable pub listFrom : ℕ → Kind → List ℕ → List ℕ → List ℕ → ℕ → Written → Written
 unfolding written
 listFrom zero kind keys values next at o = o
 listFrom (suc m) kind keys values next zero o = o
 listFrom (suc m) kind keys values next (suc s) o = listFrom m kind keys values next (getD next s 0) (written kind keys values s o)
 
 -- one chain, and m chains from c on, until `len` entries are written
-unfoldable pub listChain : ℕ → ℕ → List ℕ → List ℕ → List ℕ → ℕ → Written → Written
+unfoldable pub listChain : ℕ → Kind → List ℕ → List ℕ → List ℕ → ℕ → Written → Written
 unfolding listFrom
 listChain len kind keys values next at o = listFrom (len - o .count) kind keys values next at o
 
-unfoldable pub listChains : ℕ → ℕ → ℕ → List ℕ → List ℕ → List ℕ → List ℕ → ℕ → Written → Written
+unfoldable pub listChains : ℕ → ℕ → Kind → List ℕ → List ℕ → List ℕ → List ℕ → ℕ → Written → Written
 unfolding listChain
 listChains zero len kind keys values first next c o = o
 listChains (suc m) len kind keys values first next c o = listChains m len kind keys values first next (c + 1) (listChain len kind keys values next (getD first c 0) o)
 
 -- the waiting chain, then the buckets
-unfoldable pub listEntries : ℕ → ℕ → List ℕ → List ℕ → List ℕ → List ℕ → List ℕ → List ℕ → Written
+unfoldable pub listEntries : ℕ → Kind → List ℕ → List ℕ → List ℕ → List ℕ → List ℕ → List ℕ → Written
 unfolding listChains listChain
 listEntries len kind keys values first next ks vs = listChains waitingChain len kind keys values first next 0 (listChain len kind keys values next (getD first waitingChain 0) (wrote ks vs 0))
 

@@ -1,9 +1,10 @@
 -- What a call gives back: document 01, "Numbers given back".
-use mathlib.Core.Bool.{Bool, true, false, _&&_}
+use mathlib.Core.Bool.{Bool, true, false, cond, _&&_}
 use mathlib.Core.List.{List}
 use Prim.Native.Nat.{ℕ, zero, suc, _*_}
 use lib.Dec.{leb}
-use Rattle.keys.specs.Ordered.{words}
+use Rattle.keys.specs.Ordered.{words, wellFormed}
+use Rattle.keys.specs.declared.kind.Kind.{Kind}
 use Rattle.pool.specs.World.{World}
 use Rattle.pool.specs.Examine.{examined}
 
@@ -38,12 +39,16 @@ unfoldable pub unless : ℕ → World → Outcome → Outcome
 unless zero w o = o
 unless (suc c) w o = refused w (suc c)
 
+-- what a key by itself is told: 5 if it is not well-formed
+unfoldable pub keyCode : Kind → ℕ → ℕ → ℕ
+keyCode kind a b = cond (wellFormed kind a b) 0 5
+
 -- "Every call but the two fresh ones, the batch included, examines the whole pool once before it acts."
 unfoldable pub checked : World → Outcome → Outcome
 checked w o = unless (examined w) w o
 
 -- "code 4 if either is too short": so many entries find room in so many key words and values
-unfoldable pub roomFor : ℕ → ℕ → ℕ → ℕ → Bool
+unfoldable pub roomFor : Kind → ℕ → ℕ → ℕ → Bool
 roomFor kind len ks vs = leb (words kind * len) ks && leb len vs
 
 -- what `list` gives: the two lent slices afterwards, and how many entries were written

@@ -46,8 +46,9 @@ fn drain(
         top0,
         top1,
     );
+    let kind = head.kind;
     let topped = Head {
-        kind: head.kind,
+        kind,
         len: head.len,
         topped: true,
         top0,

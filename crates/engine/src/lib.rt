@@ -14,5 +14,6 @@ pub use listing::list_all;
 pub use popping::Taken;
 pub use popping::pop;
 pub use pushing::Entered;
+pub use pushing::key_code;
 pub use pushing::push;
 pub use pushing::push_code;

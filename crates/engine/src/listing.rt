@@ -1,4 +1,5 @@
 // List: the waiting chain, then the buckets from 0 upwards, each front to back.
+use keys::Kind;
 ghost use mathlib.Core.Path.{_≡_};
 ghost use Prim.Native.Nat.{_≤_};
 ghost use lib.ListN.{length};
@@ -8,7 +9,7 @@ ghost use Rattle.engine.specs.Core.{wrote, listChain, listEntries};
 
 // One chain, from the link `start`, after `count` entries; no more than `len` in all.
 fn list_chain(
-    kind: u32,
+    kind: Kind,
     len: usize,
     keys: &[u64],
     values: &[u64],
@@ -45,7 +46,7 @@ fn list_chain(
 
 // Writes every entry to the two rooms, and gives how many there were.
 pub fn list_all(
-    kind: u32,
+    kind: Kind,
     len: usize,
     first: &[u32; 131],
     keys: &[u64],

@@ -64,8 +64,9 @@ fn take_tail(
     let key1 = pool::key1(head.kind, keys, i);
     let value = values[i];
     pool::release(first, last, keys, values, next, back, head.kind, slot);
+    let kind = head.kind;
     let left = Head {
-        kind: head.kind,
+        kind,
         len: head.len - 1,
         topped: head.topped,
         top0: head.top0,

@@ -1,11 +1,14 @@
 // Push: the first free slot goes to the tail of its bucket, or of the waiting chain.
+use keys::Kind;
+use keys::Masks;
 use pool::Head;
 ghost use mathlib.Core.Path.{_≡_};
 ghost use mathlib.Core.Bool.{false};
+ghost use Rattle.keys.specs.Masks.{Reads};
 ghost use Rattle.pool.specs.World.{links, world};
 ghost use Rattle.pool.specs.Fine.{Ready};
 ghost use Rattle.pool.specs.Core.{placeIn};
-ghost use Rattle.engine.specs.Outcome.{answered};
+ghost use Rattle.engine.specs.Outcome.{answered, keyCode};
 ghost use Rattle.engine.specs.Core.{pushCode, pushCore};
 
 pub struct Entered {
@@ -13,15 +16,34 @@ pub struct Entered {
     pub head: Head,
 }
 
-// The code of a push, where `free` is the link to the first free slot.
-pub fn push_code(head: Head, free: u32, key0: u64, key1: u64) -> u8
-    ensures { λ r. ⌜ r ≡ pushCode head free key0 key1 ⌝ }
+// What a key by itself is told: code 5 for one that is not well-formed.
+fn key_code_by(kind: Kind, masks: Masks, key0: u64, key1: u64) -> u8
+    requires { ⌜ Reads masks kind ⌝ }
+    ensures { λ r. ⌜ r ≡ keyCode kind key0 key1 ⌝ }
 {
-    if !keys::well_formed(head.kind, key1) {
+    if !keys::well_formed_by(kind, masks, key0, key1) {
         return pool::MALFORMED;
     }
+    pool::DONE
+}
+
+pub fn key_code(kind: Kind, key0: u64, key1: u64) -> u8
+    ensures { λ r. ⌜ r ≡ keyCode kind key0 key1 ⌝ }
+{
+    key_code_by(kind, keys::kind_masks(kind), key0, key1)
+}
+
+// The code of a push, where `free` is the link to the first free slot.
+fn push_code_by(head: Head, masks: Masks, free: u32, key0: u64, key1: u64) -> u8
+    requires { ⌜ Reads masks (head .kind) ⌝ }
+    ensures { λ r. ⌜ r ≡ pushCode head free key0 key1 ⌝ }
+{
+    let code = key_code_by(head.kind, masks, key0, key1);
+    if code != 0 {
+        return code;
+    }
     if head.topped {
-        if keys::above(head.kind, key0, key1, head.top0, head.top1) {
+        if keys::above_by(head.kind, masks, key0, key1, head.top0, head.top1) {
             return pool::ABOVE_TOP;
         }
     }
@@ -31,12 +53,19 @@ pub fn push_code(head: Head, free: u32, key0: u64, key1: u64) -> u8
     pool::DONE
 }
 
+pub fn push_code(head: Head, free: u32, key0: u64, key1: u64) -> u8
+    ensures { λ r. ⌜ r ≡ pushCode head free key0 key1 ⌝ }
+{
+    push_code_by(head, keys::kind_masks(head.kind), free, key0, key1)
+}
+
 // The chain where a key belongs.
-fn place(head: Head, key0: u64, key1: u64) -> usize
+fn place(head: Head, masks: Masks, key0: u64, key1: u64) -> usize
+    requires { ⌜ Reads masks (head .kind) ⌝ }
     ensures { λ r. ⌜ r ≡ placeIn head key0 key1 ⌝ }
 {
     if head.topped {
-        return keys::distance(head.kind, key0, key1, head.top0, head.top1) as usize;
+        return keys::distance_by(head.kind, masks, key0, key1, head.top0, head.top1) as usize;
     }
     pool::WAITING
 }
@@ -57,7 +86,8 @@ pub fn push(
     requires { ⌜ Ready head (links (now first) (now last) (now next) (now back) (now busy)) (now keys) (now values) ⌝ }
     ensures { λ r. ⌜ answered (r .code) (world (r .head) (links (now (first .exit)) (now (last .exit)) (now (next .exit)) (now (back .exit)) (now (busy .exit))) (now (keys .exit)) (now (values .exit))) 0 false 0 0 0 0 ≡ pushCore (world head (links (now (first .entry)) (now (last .entry)) (now (next .entry)) (now (back .entry)) (now (busy .entry))) (now (keys .entry)) (now (values .entry))) key0 key1 value ⌝ }
 {
-    let code = push_code(head, first[pool::FREE], key0, key1);
+    let masks = keys::kind_masks(head.kind);
+    let code = push_code_by(head, masks, first[pool::FREE], key0, key1);
     if code != 0 {
         return Entered { code, head };
     }
@@ -65,9 +95,18 @@ pub fn push(
     let i = slot as usize;
     pool::store_key(head.kind, keys, i, key0, key1);
     values[i] = value;
-    pool::append(first, last, busy, next, back, place(head, key0, key1), slot);
+    pool::append(
+        first,
+        last,
+        busy,
+        next,
+        back,
+        place(head, masks, key0, key1),
+        slot,
+    );
+    let kind = head.kind;
     let grown = Head {
-        kind: head.kind,
+        kind,
         len: head.len + 1,
         topped: head.topped,
         top0: head.top0,

@@ -1,4 +1,5 @@
 // A pool of four slots with its state, by value, and whether two are the same.
+use keys::Kind;
 use pool::Head;
 use pool::State;
 
@@ -16,7 +17,15 @@ pub fn fresh() -> Sample {
     let mut values = [0u64; 4];
     let mut next = [0u32; 4];
     let mut back = [0u32; 4];
-    let r = heap::new_at(1, 10, 0, &mut keys, &mut values, &mut next, &mut back);
+    let r = heap::new_at(
+        Kind::bare(1),
+        10,
+        0,
+        &mut keys,
+        &mut values,
+        &mut next,
+        &mut back,
+    );
     let state = r.state;
     Sample {
         state,
@@ -55,8 +64,20 @@ fn same_links(a: &[u32], b: &[u32]) -> bool {
     true
 }
 
+fn same_kind(a: Kind, b: Kind) -> bool {
+    let s = a.table;
+    let t = b.table;
+    if s.first != t.first || s.second != t.second {
+        return false;
+    }
+    a.number == b.number && s.third == t.third && s.fourth == t.fourth
+}
+
 fn same_head(h: Head, g: Head) -> bool {
-    if h.kind != g.kind || h.len != g.len || h.topped != g.topped {
+    if !same_kind(h.kind, g.kind) {
+        return false;
+    }
+    if h.len != g.len || h.topped != g.topped {
         return false;
     }
     h.top0 == g.top0 && h.top1 == g.top1

@@ -1,6 +1,7 @@
 // A batch on a fresh heap of any kind, over a pool of any number of slots that is lent here.
 use crate::serve;
 use crate::tell;
+use keys::Kind;
 ghost use mathlib.Core.Path.{_≡_};
 ghost use mathlib.Core.Bool.{cond, _&&_};
 ghost use Prim.Native.Nat.{_+_, _*_, _≤_};
@@ -20,15 +21,15 @@ pub fn small(a: u8, b: u8, c: u8, d: u8) -> u32
 }
 
 // How many key words n slots have.
-fn key_words(kind: u32, n: usize) -> usize
+fn key_words(kind: Kind, n: usize) -> usize
     requires { ⌜ n ≤ 4096 ⌝ }
     ensures { λ r. ⌜ r ≤ 8192 ⌝ }
 {
-    if kind == 4 { 2 * n } else { n }
+    if keys::is_wide(kind) { 2 * n } else { n }
 }
 
 // Lends a pool of n slots, and room for the answers of 2,048 records.
-pub fn serve_slots(kind: u32, n: usize, records: &[u8]) {
+pub fn serve_slots(kind: Kind, n: usize, records: &[u8]) {
     if 4096 < n {
         tell(pool::UNFIT);
         return;

@@ -10,6 +10,7 @@ mod any_pool;
 
 pub use any_pool::serve_slots;
 pub use any_pool::small;
+use keys::Kind;
 
 // One byte with a code.
 pub fn tell(code: u8) {
@@ -31,7 +32,7 @@ fn tell_all(code: u8, count: usize, answers: &[u8]) {
 
 // Runs the records on a fresh heap of this kind, and writes the answers.
 pub fn serve(
-    kind: u32,
+    kind: Kind,
     keys: &mut [u64],
     values: &mut [u64],
     next: &mut [u32],
@@ -52,7 +53,7 @@ fn serve_input(records: &[u8]) {
     let mut back = [0; 256];
     let mut answers = [0; 20480];
     serve(
-        3,
+        Kind::bare(3),
         &mut keys,
         &mut values,
         &mut next,

@@ -1,26 +1,26 @@
 -- On a sound world what the core does is what document 01 says, and leaves a sound world.
 use mathlib.Core.Path.{_≡_, refl, sym, ap, _∙_, subst}
-use mathlib.Core.Logic.{_≢_}
 use mathlib.Core.Bool.{Bool, true, false, cond, true≢false}
 use mathlib.Core.List.{List, [], _∷_}
 use mathlib.Core.Option.{none, some}
-use Prim.Native.Nat.{ℕ, suc, _+_, _-_, _≤_}
+use Prim.Native.Nat.{ℕ, zero, suc, _+_, _-_, _≤_}
 use native.Mathlib.Omega.{arith}
 use native.Mathlib.Decide.{ℕ-discrete}
-use borrow.Author.Tests.{eq-eqb, ne-eqb, eqb-true}
+use borrow.Author.Tests.{eq-eqb, ne-eqb}
 use lib.Dec.{eqb}
 use lib.ListN.{getD, set}
 use Rattle.rule.specs.Rule.{keep, empty, push as rulePush, constrain as ruleConstrain, pop as rulePop}
 use Rattle.pool.specs.Chain.{Linked}
-use Rattle.keys.specs.Ordered.{width, ordered, wellFormed}
+use Rattle.keys.specs.Ordered.{width, ordered}
 use Rattle.pool.specs.World.{freeChain, World, resized, storeKey, size, firstOf, lastOf, chain, keyAt, topKey, within}
 use Rattle.pool.specs.Sound.{Whole}
 use Rattle.pool.specs.Lay.{topIn, heap, fresh}
-use Rattle.engine.specs.Outcome.{Outcome, refused, done, given, unless}
+use Rattle.engine.specs.Outcome.{Outcome, refused, done, given, unless, keyCode}
 use Rattle.pool.specs.Core.{entered, Moved, movedTo, constrainCore, readied, Popped, popTail, freshCore}
 use Rattle.engine.specs.Core.{pushCode, pushCore, popFrom, popCore, clearCore, clearToCore}
 use Rattle.heap.specs.Calls.{pushInto, push, constrain, popOut, pop, clear, clearTo, top, len}
-use Rattle.keys.proofs.Ordered.{well-formed-word}
+use Rattle.keys.proofs.Ordered.{proper-zero}
+use Rattle.engine.proofs.CodePush.{key-proper, code-key, code-past}
 use Rattle.pool.proofs.Laid.{at-chains}
 use Rattle.pool.proofs.OnChains.{less-one, not-none}
 use Rattle.pool.proofs.FreshPool.{run}
@@ -28,36 +28,28 @@ use Rattle.pool.proofs.Follows.{Follows, fresh-core, fresh-follows, enter-links
 
 -- ---- push
 
--- the second word of a well-formed key is 0 in kinds 1 to 3
-pub well-formed-one : (kind b : ℕ) → wellFormed kind b ≡ true → kind ≢ 4 → b ≡ 0
-well-formed-one kind b e n = eqb-true b 0 (sym (well-formed-word kind b n) ∙ e)
-
 module _ (w : World) (a b v : ℕ) where
-  pub push-by : (x y : Bool) → wellFormed (w .head .kind) b ≡ x → within (w .head .topped) (ordered (w .head .kind) a b) (topKey w) ≡ y
-      → push w a b v ≡ (elim x as (λ z. Outcome) [ false ↦ refused w 5 | true ↦ elim y as (λ z. Outcome) [ false ↦ refused w 6 | true ↦ pushInto w a b v (chain w freeChain) ] ])
+  pub push-by : (x : ℕ) (y : Bool) → keyCode (w .head .kind) a b ≡ x → within (w .head .topped) (ordered (w .head .kind) a b) (topKey w) ≡ y → push w a b v ≡ unless x w (elim y as (λ z. Outcome) [ false ↦ refused w 6 | true ↦ pushInto w a b v (chain w freeChain) ])
   unfolding push
-  push-by x y p q = λ i. elim (p i) as (λ z. Outcome) [ false ↦ refused w 5 | true ↦ elim (q i) as (λ z. Outcome) [ false ↦ refused w 6 | true ↦ pushInto w a b v (chain w freeChain) ] ]
+  push-by x y p q = λ i. unless (p i) w (elim (q i) as (λ z. Outcome) [ false ↦ refused w 6 | true ↦ pushInto w a b v (chain w freeChain) ])
 
-  pub push-5 : wellFormed (w .head .kind) b ≡ false → push w a b v ≡ refused w 5
-  push-5 p = push-by false (within (w .head .topped) (ordered (w .head .kind) a b) (topKey w)) p refl
+  pub push-key : (c : ℕ) → keyCode (w .head .kind) a b ≡ suc c → push w a b v ≡ refused w (suc c)
+  unfolding unless
+  push-key c p = push-by (suc c) (within (w .head .topped) (ordered (w .head .kind) a b) (topKey w)) p refl
 
-  pub push-6 : wellFormed (w .head .kind) b ≡ true → within (w .head .topped) (ordered (w .head .kind) a b) (topKey w) ≡ false → push w a b v ≡ refused w 6
-  push-6 p q = push-by true false p q
+  pub push-6 : keyCode (w .head .kind) a b ≡ 0 → within (w .head .topped) (ordered (w .head .kind) a b) (topKey w) ≡ false → push w a b v ≡ refused w 6
+  unfolding unless
+  push-6 p q = push-by 0 false p q
 
-  pub push-free : wellFormed (w .head .kind) b ≡ true → within (w .head .topped) (ordered (w .head .kind) a b) (topKey w) ≡ true → push w a b v ≡ pushInto w a b v (chain w freeChain)
-  push-free p q = push-by true true p q
+  pub push-free : keyCode (w .head .kind) a b ≡ 0 → within (w .head .topped) (ordered (w .head .kind) a b) (topKey w) ≡ true → push w a b v ≡ pushInto w a b v (chain w freeChain)
+  unfolding unless
+  push-free p q = push-by 0 true p q
 
-  code-5 : wellFormed (w .head .kind) b ≡ false → pushCode (w .head) (firstOf w freeChain) a b ≡ 5
-  unfolding pushCode
-  code-5 p = rw p refl
+  code-6 : keyCode (w .head .kind) a b ≡ 0 → within (w .head .topped) (ordered (w .head .kind) a b) (topKey w) ≡ false → pushCode (w .head) (firstOf w freeChain) a b ≡ 6
+  code-6 p q = rw (code-past (w .head) (firstOf w freeChain) a b p, q) refl
 
-  code-6 : wellFormed (w .head .kind) b ≡ true → within (w .head .topped) (ordered (w .head .kind) a b) (topKey w) ≡ false → pushCode (w .head) (firstOf w freeChain) a b ≡ 6
-  unfolding pushCode
-  code-6 p q = rw (p, q) refl
-
-  code-free : wellFormed (w .head .kind) b ≡ true → within (w .head .topped) (ordered (w .head .kind) a b) (topKey w) ≡ true → (t : Bool) → eqb (firstOf w freeChain) 0 ≡ t → pushCode (w .head) (firstOf w freeChain) a b ≡ cond t 7 0
-  unfolding pushCode
-  code-free p q t r = rw (p, q, r) refl
+  code-free : keyCode (w .head .kind) a b ≡ 0 → within (w .head .topped) (ordered (w .head .kind) a b) (topKey w) ≡ true → (t : Bool) → eqb (firstOf w freeChain) 0 ≡ t → pushCode (w .head) (firstOf w freeChain) a b ≡ cond t 7 0
+  code-free p q t r = rw (code-past (w .head) (firstOf w freeChain) a b p, q, r) refl
 
   core-code : (c : ℕ) → pushCode (w .head) (firstOf w freeChain) a b ≡ suc c → pushCore w a b v ≡ refused w (suc c)
   unfolding pushCore unless
@@ -68,22 +60,22 @@ module _ (w : World) (a b v : ℕ) where
   core-done s e f = ap (λ (x : ℕ). unless x w (done (entered w (firstOf w freeChain - 1) a b v) 0)) e ∙ ap (λ (x : ℕ). done (entered w x a b v) 0) (ap (λ (x : ℕ). x - 1) f ∙ less-one s)
 
 module _ {w : World} (h : Whole w) (a b v : ℕ) where
-  module _ (p : wellFormed (w .head .kind) b ≡ true) (q : within (w .head .topped) (ordered (w .head .kind) a b) (topKey w) ≡ true) (s : ℕ) (free : List ℕ) (f : chain w freeChain ≡ s ∷ free) where
+  module _ (p : keyCode (w .head .kind) a b ≡ 0) (q : within (w .head .topped) (ordered (w .head .kind) a b) (topKey w) ≡ true) (s : ℕ) (free : List ℕ) (f : chain w freeChain ≡ s ∷ free) where
     p-done : done (entered w s a b v) 0 ≡ push w a b v
     unfolding pushInto entered
-    p-done = (λ i. done (record { head = resized (w .head) (w .head .len + 1); links = sym (enter-links h a b v (well-formed-one (w .head .kind) b p) q s free f) i; keys = storeKey (w .head .kind) (w .keys) s a b; values = set (w .values) s v }) 0)
+    p-done = (λ i. done (record { head = resized (w .head) (w .head .len + 1); links = sym (enter-links h a b v (key-proper (w .head .kind) a b p) q s free f) i; keys = storeKey (w .head .kind) (w .keys) s a b; values = set (w .values) s v }) 0)
         ∙ ap (pushInto w a b v) (sym f) ∙ sym (push-free w a b v p q)
 
     -- code 0: the first free slot goes where the rule puts it
     pub push-follows : (push w a b v .code ≡ 0) × Follows (push w a b v .world) (rulePush (width (w .head .kind)) (λ x. ordered (w .head .kind) a b) keep (heap w) s) free
     unfolding done
     push-follows = subst (λ (o : Outcome). (o .code ≡ 0) × Follows (o .world) (rulePush (width (w .head .kind)) (λ x. ordered (w .head .kind) a b) keep (heap w) s) free) p-done
-        (refl, enter-follows h a b v (well-formed-one (w .head .kind) b p) q s free f)
+        (refl, enter-follows h a b v (key-proper (w .head .kind) a b p) q s free f)
 
   p-link : Linked (w .links .next) (firstOf w freeChain) (chain w freeChain)
   p-link = h .sound .run freeChain (omega arith)
 
-  by-free : wellFormed (w .head .kind) b ≡ true → within (w .head .topped) (ordered (w .head .kind) a b) (topKey w) ≡ true → (l : List ℕ) → chain w freeChain ≡ l → pushCore w a b v ≡ push w a b v
+  by-free : keyCode (w .head .kind) a b ≡ 0 → within (w .head .topped) (ordered (w .head .kind) a b) (topKey w) ≡ true → (l : List ℕ) → chain w freeChain ≡ l → pushCore w a b v ≡ push w a b v
   unfolding pushInto
   by-free p q [] f =
       core-code w a b v 6 (code-free w a b v p q true (eq-eqb (firstOf w freeChain) 0 (subst (Linked (w .links .next) (firstOf w freeChain)) f p-link)))
@@ -92,28 +84,28 @@ module _ {w : World} (h : Whole w) (a b v : ℕ) where
       let l : Linked (w .links .next) (firstOf w freeChain) (s ∷ free) = subst (Linked (w .links .next) (firstOf w freeChain)) f p-link in
       core-done w a b v s (code-free w a b v p q false (not-none (firstOf w freeChain) s (l .0))) (l .0) ∙ p-done p q s free f
 
-  by-tests : (x y : Bool) → wellFormed (w .head .kind) b ≡ x → within (w .head .topped) (ordered (w .head .kind) a b) (topKey w) ≡ y → pushCore w a b v ≡ push w a b v
-  by-tests false y p q = core-code w a b v 4 (code-5 w a b v p) ∙ sym (push-5 w a b v p)
-  by-tests true false p q = core-code w a b v 5 (code-6 w a b v p q) ∙ sym (push-6 w a b v p q)
-  by-tests true true p q = by-free p q (chain w freeChain) refl
+  by-tests : (x : ℕ) (y : Bool) → keyCode (w .head .kind) a b ≡ x → within (w .head .topped) (ordered (w .head .kind) a b) (topKey w) ≡ y → pushCore w a b v ≡ push w a b v
+  by-tests (suc c) y p q = core-code w a b v c (sym (code-key (w .head) (firstOf w freeChain) a b (suc c) (sym p) (λ z. absurd (omega arith)))) ∙ sym (push-key w a b v c p)
+  by-tests zero false p q = core-code w a b v 5 (code-6 w a b v p q) ∙ sym (push-6 w a b v p q)
+  by-tests zero true p q = by-free p q (chain w freeChain) refl
 
   -- what the core does is what document 01 says
   pub push-core : pushCore w a b v ≡ push w a b v
-  push-core = by-tests (wellFormed (w .head .kind) b) (within (w .head .topped) (ordered (w .head .kind) a b) (topKey w)) refl refl
+  push-core = by-tests (keyCode (w .head .kind) a b) (within (w .head .topped) (ordered (w .head .kind) a b) (topKey w)) refl refl
 
-  whole-free : wellFormed (w .head .kind) b ≡ true → within (w .head .topped) (ordered (w .head .kind) a b) (topKey w) ≡ true → (l : List ℕ) → chain w freeChain ≡ l → Whole (push w a b v .world)
+  whole-free : keyCode (w .head .kind) a b ≡ 0 → within (w .head .topped) (ordered (w .head .kind) a b) (topKey w) ≡ true → (l : List ℕ) → chain w freeChain ≡ l → Whole (push w a b v .world)
   unfolding pushInto refused
   whole-free p q [] f = subst (λ (o : Outcome). Whole (o .world)) (sym (push-free w a b v p q ∙ ap (pushInto w a b v) f)) h
   whole-free p q (s ∷ free) f = push-follows p q s free f .1 .whole
 
-  whole-tests : (x y : Bool) → wellFormed (w .head .kind) b ≡ x → within (w .head .topped) (ordered (w .head .kind) a b) (topKey w) ≡ y → Whole (push w a b v .world)
+  whole-tests : (x : ℕ) (y : Bool) → keyCode (w .head .kind) a b ≡ x → within (w .head .topped) (ordered (w .head .kind) a b) (topKey w) ≡ y → Whole (push w a b v .world)
   unfolding refused
-  whole-tests false y p q = subst (λ (o : Outcome). Whole (o .world)) (sym (push-5 w a b v p)) h
-  whole-tests true false p q = subst (λ (o : Outcome). Whole (o .world)) (sym (push-6 w a b v p q)) h
-  whole-tests true true p q = whole-free p q (chain w freeChain) refl
+  whole-tests (suc c) y p q = subst (λ (o : Outcome). Whole (o .world)) (sym (push-key w a b v c p)) h
+  whole-tests zero false p q = subst (λ (o : Outcome). Whole (o .world)) (sym (push-6 w a b v p q)) h
+  whole-tests zero true p q = whole-free p q (chain w freeChain) refl
 
   pub push-whole : Whole (push w a b v .world)
-  push-whole = whole-tests (wellFormed (w .head .kind) b) (within (w .head .topped) (ordered (w .head .kind) a b) (topKey w)) refl refl
+  push-whole = whole-tests (keyCode (w .head .kind) a b) (within (w .head .topped) (ordered (w .head .kind) a b) (topKey w)) refl refl
 
 -- ---- constrain
 
@@ -198,7 +190,7 @@ module _ {w : World} (h : Whole w) where
 
 module _ {w : World} (h : Whole w) where
   cleared-core : freshCore (w .head .kind) (size w) false 0 0 ≡ fresh (w .head .kind) (size w) false 0 0
-  cleared-core = fresh-core (w .head .kind) (size w) false 0 0 (h .fit .kindLow) (h .fit .kindHigh) (h .fit .small) (λ e. refl) (λ e. refl) (λ n. refl)
+  cleared-core = fresh-core (w .head .kind) (size w) false 0 0 (h .fit .kindOk) (h .fit .small) (λ e. refl) (λ e. refl) (proper-zero (w .head .kind))
 
   pub clear-core : clearCore w ≡ clear w
   unfolding clearCore clear
@@ -206,42 +198,43 @@ module _ {w : World} (h : Whole w) where
 
   pub clear-follows : Follows (clear w .world) (empty none) (run 0 (size w))
   unfolding clear done topIn
-  clear-follows = fresh-follows (w .head .kind) (size w) false 0 0 (h .fit .kindLow) (h .fit .kindHigh) (h .fit .small) (λ e. refl) (λ e. refl) (λ n. refl)
+  clear-follows = fresh-follows (w .head .kind) (size w) false 0 0 (h .fit .kindOk) (h .fit .small) (λ e. refl) (λ e. refl) (proper-zero (w .head .kind))
 
   pub clear-whole : Whole (clear w .world)
   clear-whole = clear-follows .whole
 
   module _ (a b : ℕ) where
-    at-core : wellFormed (w .head .kind) b ≡ true → freshCore (w .head .kind) (size w) true a b ≡ fresh (w .head .kind) (size w) true a b
-    at-core p = fresh-core (w .head .kind) (size w) true a b (h .fit .kindLow) (h .fit .kindHigh) (h .fit .small) (λ e. absurd (true≢false e)) (λ e. absurd (true≢false e)) (well-formed-one (w .head .kind) b p)
+    at-core : keyCode (w .head .kind) a b ≡ 0 → freshCore (w .head .kind) (size w) true a b ≡ fresh (w .head .kind) (size w) true a b
+    at-core p = fresh-core (w .head .kind) (size w) true a b (h .fit .kindOk) (h .fit .small) (λ e. absurd (true≢false e)) (λ e. absurd (true≢false e)) (key-proper (w .head .kind) a b p)
 
-    pub clearTo-by : (x : Bool) → wellFormed (w .head .kind) b ≡ x → clearTo w a b ≡ (elim x as (λ z. Outcome) [ false ↦ refused w 5 | true ↦ done (fresh (w .head .kind) (size w) true a b) 0 ])
+    pub clearTo-by : (x : ℕ) → keyCode (w .head .kind) a b ≡ x → clearTo w a b ≡ unless x w (done (fresh (w .head .kind) (size w) true a b) 0)
     unfolding clearTo
-    clearTo-by x p = λ i. elim (p i) as (λ z. Outcome) [ false ↦ refused w 5 | true ↦ done (fresh (w .head .kind) (size w) true a b) 0 ]
+    clearTo-by x p = λ i. unless (p i) w (done (fresh (w .head .kind) (size w) true a b) 0)
 
-    toCore-by : (x : Bool) → wellFormed (w .head .kind) b ≡ x → clearToCore w a b ≡ (elim x as (λ z. Outcome) [ false ↦ refused w 5 | true ↦ done (freshCore (w .head .kind) (size w) true a b) 0 ])
+    toCore-by : (x : ℕ) → keyCode (w .head .kind) a b ≡ x → clearToCore w a b ≡ unless x w (done (freshCore (w .head .kind) (size w) true a b) 0)
     unfolding clearToCore
-    toCore-by x p = λ i. elim (p i) as (λ z. Outcome) [ false ↦ refused w 5 | true ↦ done (freshCore (w .head .kind) (size w) true a b) 0 ]
+    toCore-by x p = λ i. unless (p i) w (done (freshCore (w .head .kind) (size w) true a b) 0)
 
     pub clearTo-core : clearToCore w a b ≡ clearTo w a b
-    clearTo-core = go (wellFormed (w .head .kind) b) refl
+    unfolding unless
+    clearTo-core = go (keyCode (w .head .kind) a b) refl
       where
-        go : (x : Bool) → wellFormed (w .head .kind) b ≡ x → clearToCore w a b ≡ clearTo w a b
-        go false p = toCore-by false p ∙ sym (clearTo-by false p)
-        go true p = toCore-by true p ∙ ap (λ (x : World). done x 0) (at-core p) ∙ sym (clearTo-by true p)
+        go : (x : ℕ) → keyCode (w .head .kind) a b ≡ x → clearToCore w a b ≡ clearTo w a b
+        go (suc c) p = toCore-by (suc c) p ∙ sym (clearTo-by (suc c) p)
+        go zero p = toCore-by 0 p ∙ ap (λ (x : World). done x 0) (at-core p) ∙ sym (clearTo-by 0 p)
 
-    pub clearTo-follows : wellFormed (w .head .kind) b ≡ true → (clearTo w a b .code ≡ 0) × Follows (clearTo w a b .world) (empty (some (ordered (w .head .kind) a b))) (run 0 (size w))
-    unfolding done topIn
-    clearTo-follows p = subst (λ (o : Outcome). (o .code ≡ 0) × Follows (o .world) (empty (some (ordered (w .head .kind) a b))) (run 0 (size w))) (sym (clearTo-by true p))
-        (refl, fresh-follows (w .head .kind) (size w) true a b (h .fit .kindLow) (h .fit .kindHigh) (h .fit .small) (λ e. absurd (true≢false e)) (λ e. absurd (true≢false e)) (well-formed-one (w .head .kind) b p))
+    pub clearTo-follows : keyCode (w .head .kind) a b ≡ 0 → (clearTo w a b .code ≡ 0) × Follows (clearTo w a b .world) (empty (some (ordered (w .head .kind) a b))) (run 0 (size w))
+    unfolding done topIn unless
+    clearTo-follows p = subst (λ (o : Outcome). (o .code ≡ 0) × Follows (o .world) (empty (some (ordered (w .head .kind) a b))) (run 0 (size w))) (sym (clearTo-by 0 p))
+        (refl, fresh-follows (w .head .kind) (size w) true a b (h .fit .kindOk) (h .fit .small) (λ e. absurd (true≢false e)) (λ e. absurd (true≢false e)) (key-proper (w .head .kind) a b p))
 
     pub clearTo-whole : Whole (clearTo w a b .world)
-    unfolding refused
-    clearTo-whole = go (wellFormed (w .head .kind) b) refl
+    unfolding refused unless
+    clearTo-whole = go (keyCode (w .head .kind) a b) refl
       where
-        go : (x : Bool) → wellFormed (w .head .kind) b ≡ x → Whole (clearTo w a b .world)
-        go false p = subst (λ (o : Outcome). Whole (o .world)) (sym (clearTo-by false p)) h
-        go true p = clearTo-follows p .1 .whole
+        go : (x : ℕ) → keyCode (w .head .kind) a b ≡ x → Whole (clearTo w a b .world)
+        go (suc c) p = subst (λ (o : Outcome). Whole (o .world)) (sym (clearTo-by (suc c) p)) h
+        go zero p = clearTo-follows p .1 .whole
 
   pub top-whole : Whole (top w .world)
   unfolding top

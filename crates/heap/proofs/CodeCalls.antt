@@ -8,7 +8,9 @@ use native.Mathlib.Omega.{arith}
 use borrow.Author.Tests.{eqb-false, leb-true, leb-false, le-leb, lt-leb}
 use lib.Dec.{eqb, leb}
 use lib.ListN.{length}
-use Rattle.keys.proofs.Ordered.{words-pair, words-word}
+use Rattle.keys.specs.declared.kind.Kind.{Kind}
+use Rattle.keys.specs.Ordered.{isWide}
+use Rattle.keys.proofs.Ordered.{words-wide, words-word}
 use Rattle.pool.specs.World.{World}
 use Rattle.pool.specs.Sound.{Whole}
 use Rattle.pool.specs.Core.{Moved, movedTo, constrainCore}
@@ -94,24 +96,24 @@ halves len ks = go (leb len (ks / 2)) refl
     go true e = let l = leb-true len (ks / 2) e in sym (le-leb (2 * len) ks (omega arith))
     go false e = let l = leb-false len (ks / 2) e in sym (lt-leb (2 * len) ks (omega arith))
 
-module _ (kind len ks vs : ℕ) where
+module _ (kind : Kind) (len ks vs : ℕ) where
   pub room-short : vs < len → false ≡ roomFor kind len ks vs
   unfolding roomFor
   room-short l = rw (lt-leb len vs l, and-false)
 
-  pub room-pairs : len ≤ vs → kind ≡ 4 → leb len (ks / 2) ≡ roomFor kind len ks vs
+  pub room-pairs : len ≤ vs → isWide kind ≡ true → leb len (ks / 2) ≡ roomFor kind len ks vs
   unfolding roomFor
-  room-pairs l e = rw (le-leb len vs l, and-true, e, words-pair) (halves len ks)
+  room-pairs l e = rw (le-leb len vs l, and-true, words-wide kind e) (halves len ks)
 
-  pub room-words : len ≤ vs → (kind ≡ 4 → ⊥) → leb len ks ≡ roomFor kind len ks vs
+  pub room-words : len ≤ vs → isWide kind ≡ false → leb len ks ≡ roomFor kind len ks vs
   unfolding roomFor
   room-words l n = rw (le-leb len vs l, and-true, words-word kind n, one-mul)
 
-pub roomy : (kind len : ℕ) (ks vs : List ℕ) → roomFor kind len (length ks) (length vs) ≡ true → Roomy kind len ks vs
+pub roomy : (kind : Kind) (len : ℕ) (ks vs : List ℕ) → roomFor kind len (length ks) (length vs) ≡ true → Roomy kind len ks vs
 roomy kind len ks vs e =
     let r = room-enough kind len (length ks) (length vs) e in
     record {
-      wide = λ p. rw (p, words-pair) at (r .0);
+      wide = λ p. rw (words-wide kind p) at (r .0);
       narrow = λ n. rw (words-word kind n, one-mul) at (r .0);
       values = r .1;
     }

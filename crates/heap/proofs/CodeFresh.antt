@@ -1,11 +1,12 @@
 -- What the code of the calls that lay a fresh pool asks for, on plain values: the fresh world, and what each call gives at each way out.
-use mathlib.Core.Path.{_≡_, ap, _∙_}
+use mathlib.Core.Path.{_≡_, refl, ap, _∙_}
 use mathlib.Core.Bool.{Bool, true, false}
 use mathlib.Core.List.{List}
-use Prim.Native.Nat.{ℕ, _^_, _<_}
+use Prim.Native.Nat.{ℕ, zero, suc, _^_, _<_}
 use native.Mathlib.Omega.{arith}
 use lib.ListN.{length, replicate}
-use Rattle.keys.specs.Ordered.{wellFormed}
+use Rattle.keys.specs.declared.kind.Kind.{Kind}
+use Rattle.keys.specs.Table.{bare}
 use Rattle.pool.specs.declared.state.State.{State}
 use Rattle.pool.specs.World.{World, worldOf, blank, noState, size}
 use Rattle.pool.specs.Sound.{limit, Typed, Fit}
@@ -13,7 +14,7 @@ use Rattle.pool.specs.Examine.{fits, fitting, examined}
 use Rattle.pool.specs.Core.{freshNext, freshCore, freshState}
 use Rattle.pool.proofs.Exam.{fitting-fit}
 use Rattle.pool.proofs.FreshPool.{length-fresh}
-use Rattle.engine.specs.Outcome.{answered, refused, done}
+use Rattle.engine.specs.Outcome.{Outcome, answered, refused, done, unless, keyCode}
 use Rattle.engine.specs.Core.{clearCore, clearToCore, madeCore, madeAtCore}
 use Rattle.heap.specs.Calls.{cleared, clearedTo, made, madeAt}
 use Rattle.heap.proofs.Public.{made-core, madeAt-core, cleared-core, clearedTo-core}
@@ -35,13 +36,19 @@ laid-done w f t a b s ks vs ns bs l e =
     let n : length ns ≡ size w = ap length (l .1 .1 .0) ∙ length-fresh 0 (size w) in
     rw (e, n, l .0, l .1 .0, l .1 .1 .0, l .1 .1 .1, f .someKeys, f .someValues, f .someBacks)
 
+-- a code that is not 0 stops the call
+pub told-off : (w : World) (c k : ℕ) → c ≡ k → (c ≡ 0 → ⊥) → (o : Outcome) → refused w c ≡ unless k w o
+unfolding unless
+told-off w zero k e n o = absurd (n refl)
+told-off w (suc c) k e n o = ap (λ (x : ℕ). unless x w o) e
+
 -- ---- new and new_at: they get a kind and a pool
 
 -- the code's test
-abbrev pub tested : ℕ → List ℕ → List ℕ → List ℕ → List ℕ → Bool
+abbrev pub tested : Kind → List ℕ → List ℕ → List ℕ → List ℕ → Bool
 tested kind keys values next back = fits kind (length keys) (length values) (length next) (length back)
 
-module _ (kind : ℕ) (keys values next back : List ℕ) where
+module _ (kind : Kind) (keys values next back : List ℕ) where
   tested-is : (x : Bool) → tested kind keys values next back ≡ x → fitting (blank kind keys values next back) ≡ x
   unfolding blank fitting
   tested-is x e = e
@@ -54,7 +61,7 @@ module _ (kind : ℕ) (keys values next back : List ℕ) where
   tested-small f = fit-small (tested-fit f)
 
   -- "A refused fresh returns a state all zero (kind 0)."
-  none : (code : ℕ) (s : State) → s ≡ noState → answered code (worldOf s keys values next back) 0 false 0 0 0 0 ≡ refused (blank 0 keys values next back) code
+  none : (code : ℕ) (s : State) → s ≡ noState → answered code (worldOf s keys values next back) 0 false 0 0 0 0 ≡ refused (blank (bare 0) keys values next back) code
   unfolding noState blank refused
   none code s e = rw e
 
@@ -72,14 +79,14 @@ module _ (kind : ℕ) (keys values next back : List ℕ) where
     unfolding madeAt
     madeAt-unfit s f e = rw (madeAt, tested-is false f) (none 1 s e)
 
-    pub madeAt-malformed : (s : State) → tested kind keys values next back ≡ true → wellFormed kind b ≡ false → s ≡ noState
-        → answered 5 (worldOf s keys values next back) 0 false 0 0 0 0 ≡ madeAt kind a b keys values next back
+    pub madeAt-malformed : (s : State) (code : ℕ) → tested kind keys values next back ≡ true → code ≡ keyCode kind a b → (code ≡ 0 → ⊥) → s ≡ noState
+        → answered code (worldOf s keys values next back) 0 false 0 0 0 0 ≡ madeAt kind a b keys values next back
     unfolding madeAt
-    madeAt-malformed s f m e = rw (madeAt, tested-is true f, m) (none 5 s e)
+    madeAt-malformed s code f m n e = rw (madeAt, tested-is true f) (none code s e ∙ told-off (blank (bare 0) keys values next back) code (keyCode kind a b) m n _)
 
-    pub madeAt-fresh : (s : State) (ks vs ns bs : List ℕ) → tested kind keys values next back ≡ true → wellFormed kind b ≡ true → Laid keys values next back ks vs ns bs → s ≡ freshState kind (length ns) true a b
+    pub madeAt-fresh : (s : State) (ks vs ns bs : List ℕ) → tested kind keys values next back ≡ true → keyCode kind a b ≡ 0 → Laid keys values next back ks vs ns bs → s ≡ freshState kind (length ns) true a b
         → answered 0 (worldOf s ks vs ns bs) 0 false 0 0 0 0 ≡ madeAt kind a b keys values next back
-    unfolding madeAtCore
+    unfolding madeAtCore unless
     madeAt-fresh s ks vs ns bs f m l e = rw (← madeAt-core kind keys values next back a b, madeAtCore, tested-is true f, m) (laid-done _ (tested-fit f) true a b s ks vs ns bs l e)
 
 -- ---- clear and clear_to, where the examination passes
@@ -100,11 +107,11 @@ module _ (w : World) (code : ℕ) (told : code ≡ examined w) (typed : Typed (w
     acts : clearToCore w a b ≡ clearedTo w a b
     acts = passed w code told (clearToCore w a b) z ∙ clearedTo-core w typed a b
 
-    pub clearedTo-malformed : wellFormed (w .head .kind) b ≡ false → answered 5 w 0 false 0 0 0 0 ≡ clearedTo w a b
-    unfolding clearToCore
-    clearedTo-malformed m = rw (← acts, clearToCore, m)
+    pub clearedTo-malformed : (c : ℕ) → c ≡ keyCode (w .head .kind) a b → (c ≡ 0 → ⊥) → answered c w 0 false 0 0 0 0 ≡ clearedTo w a b
+    unfolding clearToCore refused
+    clearedTo-malformed c m n = rw (← acts, clearToCore) (told-off w c (keyCode (w .head .kind) a b) m n _)
 
-    pub clearedTo-fresh : (s : State) (ks vs ns bs : List ℕ) → wellFormed (w .head .kind) b ≡ true → Laid (w .keys) (w .values) (w .links .next) (w .links .back) ks vs ns bs
+    pub clearedTo-fresh : (s : State) (ks vs ns bs : List ℕ) → keyCode (w .head .kind) a b ≡ 0 → Laid (w .keys) (w .values) (w .links .next) (w .links .back) ks vs ns bs
         → s ≡ freshState (w .head .kind) (length ns) true a b → answered 0 (worldOf s ks vs ns bs) 0 false 0 0 0 0 ≡ clearedTo w a b
-    unfolding clearToCore
+    unfolding clearToCore unless
     clearedTo-fresh s ks vs ns bs m l e = rw (← acts, clearToCore, m) (laid-done w passed-fit true a b s ks vs ns bs l e)

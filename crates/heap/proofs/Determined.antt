@@ -3,6 +3,7 @@ use mathlib.Core.Path.{_≡_, refl, sym, _∙_, ap}
 use mathlib.Core.Bool.{false}
 use mathlib.Core.List.{List}
 use Prim.Native.Nat.{ℕ}
+use Rattle.keys.specs.declared.kind.Kind.{Kind}
 use Rattle.pool.specs.declared.state.State.{State}
 use Rattle.pool.specs.World.{World, worldOf}
 use Rattle.engine.specs.Outcome.{Outcome, answered, Listing, listing}
@@ -78,11 +79,11 @@ read-top code w (Key a b) = refl
 -- ---- the calls
 
 module _ (p p′ : Pool) where
-  pub determined-new : (kind : ℕ) (keys values next back : List ℕ) (r r′ : Answer) → answered (r .code) (over (r .state) p) 0 false 0 0 0 0 ≡ made kind keys values next back
+  pub determined-new : (kind : Kind) (keys values next back : List ℕ) (r r′ : Answer) → answered (r .code) (over (r .state) p) 0 false 0 0 0 0 ≡ made kind keys values next back
       → answered (r′ .code) (over (r′ .state) p′) 0 false 0 0 0 0 ≡ made kind keys values next back → (r ≡ r′) × (p ≡ p′)
   determined-new kind keys values next back = answer-determined (made kind keys values next back) p p′
 
-  pub determined-new-at : (kind a b : ℕ) (keys values next back : List ℕ) (r r′ : Answer) → answered (r .code) (over (r .state) p) 0 false 0 0 0 0 ≡ madeAt kind a b keys values next back
+  pub determined-new-at : (kind : Kind) (a b : ℕ) (keys values next back : List ℕ) (r r′ : Answer) → answered (r .code) (over (r .state) p) 0 false 0 0 0 0 ≡ madeAt kind a b keys values next back
       → answered (r′ .code) (over (r′ .state) p′) 0 false 0 0 0 0 ≡ madeAt kind a b keys values next back → (r ≡ r′) × (p ≡ p′)
   determined-new-at kind a b keys values next back = answer-determined (madeAt kind a b keys values next back) p p′
 

@@ -7,13 +7,14 @@ use native.Mathlib.Nat.{zero-add, add-zero}
 use native.Mathlib.Numerals.{add-one}
 use native.Mathlib.Omega.{arith}
 use borrow.Author.Tests.{leb-true}
-use lib.Dec.{leb, eqb}
+use lib.Dec.{leb}
 use lib.ListN.{length, getD, set, take, drop, length-map, length-append}
 use lib.Seq.{sets, sets-eq, getD-take, length-take-le}
 use Rattle.rule.specs.Lists.{join}
 use Rattle.rule.specs.Rule.{held}
 use Rattle.pool.specs.Chain.{total, Linked}
-use Rattle.keys.specs.Ordered.{words}
+use Rattle.keys.specs.declared.kind.Kind.{Kind}
+use Rattle.keys.specs.Ordered.{words, isWide}
 use Rattle.pool.specs.World.{waitingChain, chainCount, World, keyWord0, keyWord1, word0, word1, chains, firstOf}
 use Rattle.pool.specs.Sound.{Whole}
 use Rattle.pool.specs.Lay.{heap, heapIn}
@@ -24,7 +25,7 @@ use Rattle.pool.proofs.Chains.{length-join}
 use Rattle.pool.proofs.Keys.{store-wide, store-slim}
 use Rattle.pool.proofs.Follows.{whole-good, held-len}
 
-module _ (kind : ℕ) (keys values : List ℕ) where
+module _ (kind : Kind) (keys values : List ℕ) where
   -- the slots are written one after the other
   writes : List ℕ → Written → Written
   writes [] o = o
@@ -70,13 +71,13 @@ module _ (kind : ℕ) (keys values : List ℕ) where
   writes-values [] o = refl
   writes-values (s ∷ l) o = writes-values l (written kind keys values s o) ∙ ap (λ (i : ℕ). sets (set (o .values) (o .count) (getD values s 0)) i (map (λ s. getD values s 0) l)) (add-one (o .count))
 
-  writes-slim : eqb kind 4 ≡ false → (l : List ℕ) (o : Written) → writes l o .keys ≡ sets (o .keys) (o .count) (join (map (λ s. keyWord0 kind keys s ∷ []) l))
+  writes-slim : isWide kind ≡ false → (l : List ℕ) (o : Written) → writes l o .keys ≡ sets (o .keys) (o .count) (join (map (λ s. keyWord0 kind keys s ∷ []) l))
   unfolding writes written
   writes-slim e [] o = refl
   writes-slim e (s ∷ l) o = writes-slim e l (written kind keys values s o)
       ∙ ap₂ (λ (x : List ℕ) (i : ℕ). sets x i (join (map (λ s. keyWord0 kind keys s ∷ []) l))) (store-slim kind (o .keys) (o .count) (keyWord0 kind keys s) (keyWord1 kind keys s) e) (add-one (o .count))
 
-  writes-wide : eqb kind 4 ≡ true → (l : List ℕ) (o : Written) → writes l o .keys ≡ sets (o .keys) (2 * o .count) (join (map (λ s. keyWord0 kind keys s ∷ keyWord1 kind keys s ∷ []) l))
+  writes-wide : isWide kind ≡ true → (l : List ℕ) (o : Written) → writes l o .keys ≡ sets (o .keys) (2 * o .count) (join (map (λ s. keyWord0 kind keys s ∷ keyWord1 kind keys s ∷ []) l))
   unfolding writes written
   writes-wide e [] o = refl
   writes-wide e (s ∷ l) o = writes-wide e l (written kind keys values s o)
@@ -99,16 +100,16 @@ pub sets-over : (new old : List ℕ) → length new ≤ length old → sets old 
 unfolding over
 sets-over new old k = sets-eq new old 0 (subst (λ (n : ℕ). n ≤ length old) (sym (zero-add (length new))) k) ∙ ap (λ (n : ℕ). new ++ drop n old) (zero-add (length new))
 
-words-by : (w : World) (x : Bool) → eqb (w .head .kind) 4 ≡ x → (l : List ℕ) → join (map (wordsAt w) l) ≡ join (map (λ s. elim x as (λ y. List ℕ) [ true ↦ word0 w s ∷ word1 w s ∷ [] | false ↦ word0 w s ∷ [] ]) l)
+words-by : (w : World) (x : Bool) → isWide (w .head .kind) ≡ x → (l : List ℕ) → join (map (wordsAt w) l) ≡ join (map (λ s. elim x as (λ y. List ℕ) [ true ↦ word0 w s ∷ word1 w s ∷ [] | false ↦ word0 w s ∷ [] ]) l)
 unfolding wordsAt
 words-by w x e l = λ i. join (map (λ s. elim (e i) as (λ y. List ℕ) [ true ↦ word0 w s ∷ word1 w s ∷ [] | false ↦ word0 w s ∷ [] ]) l)
 
-room-by : (kind : ℕ) (x : Bool) → eqb kind 4 ≡ x → words kind ≡ cond x 2 1
+room-by : (kind : Kind) (x : Bool) → isWide kind ≡ x → words kind ≡ cond x 2 1
 unfolding words
 room-by kind x e = λ i. cond (e i) 2 1
 
 -- rooms that are not refused are long enough
-pub room-enough : (kind len ks vs : ℕ) → roomFor kind len ks vs ≡ true → (words kind * len ≤ ks) × (len ≤ vs)
+pub room-enough : (kind : Kind) (len ks vs : ℕ) → roomFor kind len ks vs ≡ true → (words kind * len ≤ ks) × (len ≤ vs)
 unfolding roomFor
 room-enough kind len ks vs e =
     let r = both (leb (words kind * len) ks) (leb len vs) e in
@@ -156,7 +157,7 @@ module _ {w : World} (h : Whole w) (ks vs : List ℕ) where
         ap (λ (o : Written). o .values) all-written ∙ writes-values (w .head .kind) (w .keys) (w .values) (held (heap w)) start
         ∙ sets-over (map (λ s. getD (w .values) s 0) (held (heap w))) vs (let a = length-map (held (heap w)) (λ s. getD (w .values) s 0) in let b = held-len h in omega (arith, a, b))
 
-    keys-is : (x : Bool) → eqb (w .head .kind) 4 ≡ x → listAll w ks vs .keys ≡ over (join (map (wordsAt w) (held (heap w)))) ks
+    keys-is : (x : Bool) → isWide (w .head .kind) ≡ x → listAll w ks vs .keys ≡ over (join (map (wordsAt w) (held (heap w)))) ks
     unfolding start
     keys-is true e =
         ap (λ (o : Written). o .keys) all-written ∙ writes-wide (w .head .kind) (w .keys) (w .values) e (held (heap w)) start
@@ -191,4 +192,4 @@ module _ {w : World} (h : Whole w) (ks vs : List ℕ) where
       go false e = core-by false e ∙ sym (list-by false e)
       go true e =
           let r = room-enough (w .head .kind) (w .head .len) (length ks) (length vs) e in
-          core-by true e ∙ (λ i. listing 0 w (keys-is (r .0) (r .1) (eqb (w .head .kind) 4) refl i) (values-is (r .0) (r .1) i) (w .head .len)) ∙ sym (list-by true e)
+          core-by true e ∙ (λ i. listing 0 w (keys-is (r .0) (r .1) (isWide (w .head .kind)) refl i) (values-is (r .0) (r .1) i) (w .head .len)) ∙ sym (list-by true e)

@@ -9,19 +9,23 @@ use Prim.Native.Nat.{ℕ, zero, suc}
 use lib.ListN.{length, getD}
 use Rattle.rule.specs.Lists.{join}
 use Rattle.rule.specs.Rule.{keep, Step, empty, held, pop as rulePop}
-use Rattle.keys.specs.Ordered.{width, ordered, wellFormed}
+use Rattle.keys.specs.Ordered.{width, ordered}
+use Rattle.keys.specs.declared.kind.Kind.{Kind}
+use Rattle.keys.specs.Table.{bare}
+use Rattle.keys.proofs.Ordered.{proper-zero}
 use Rattle.pool.specs.World.{freeChain, blank, World, size, chain, keyAt, topKey, within}
 use Rattle.pool.specs.Sound.{Typed, Fit, Whole}
 use Rattle.pool.specs.Examine.{examined, fitting}
 use Rattle.pool.specs.Lay.{topIn, heap, fresh}
-use Rattle.engine.specs.Outcome.{Outcome, Listing, listing, roomFor, listUnless, refused, done, given, unless, checked}
+use Rattle.engine.specs.Outcome.{Outcome, Listing, listing, roomFor, listUnless, refused, done, given, unless, keyCode, checked}
 use Rattle.pool.specs.Core.{freshCore}
 use Rattle.engine.specs.Core.{clearCore, clearToCore, madeCore, madeAtCore}
 use Rattle.heap.specs.Calls.{pushInto, push, constrain, popOut, pop, clear, clearTo, top, len, pushed, popped, constrained, cleared, clearedTo, topRead, lenRead, made, madeAt, over, wordsAt, list, listed}
+use Rattle.engine.proofs.CodePush.{key-proper}
 use Rattle.pool.proofs.Exam.{fitting-fit}
 use Rattle.pool.proofs.FreshPool.{run}
 use Rattle.pool.proofs.Follows.{examined-whole, Follows, fresh-core, fresh-follows}
-use Rattle.heap.proofs.Calls.{well-formed-one, push-by, clear-core, clearTo-core}
+use Rattle.heap.proofs.Calls.{clear-core, clearTo-core}
 
 -- ---- refused-changes-nothing
 
@@ -52,12 +56,12 @@ into-fair w a b v [] = fair-refused w 7
 into-fair w a b v (s ∷ free) = fair-done w (pushInto w a b v (s ∷ free)) refl
 
 push-fair : (w : World) (a b v : ℕ) → Fair w (push w a b v)
-push-fair w a b v = go (wellFormed (w .head .kind) b) (within (w .head .topped) (ordered (w .head .kind) a b) (topKey w)) refl refl
+unfolding push
+push-fair w a b v = fair-unless (keyCode (w .head .kind) a b) w _ (go (within (w .head .topped) (ordered (w .head .kind) a b) (topKey w)))
   where
-    go : (x y : Bool) → wellFormed (w .head .kind) b ≡ x → within (w .head .topped) (ordered (w .head .kind) a b) (topKey w) ≡ y → Fair w (push w a b v)
-    go false y p q = subst (Fair w) (sym (push-by w a b v false y p q)) (fair-refused w 5)
-    go true false p q = subst (Fair w) (sym (push-by w a b v true false p q)) (fair-refused w 6)
-    go true true p q = subst (Fair w) (sym (push-by w a b v true true p q)) (into-fair w a b v (chain w freeChain))
+    go : (y : Bool) → Fair w (elim y as (λ z. Outcome) [ false ↦ refused w 6 | true ↦ pushInto w a b v (chain w freeChain) ])
+    go false = fair-refused w 6
+    go true = into-fair w a b v (chain w freeChain)
 
 out-fair : (w : World) (r : Step ℕ) (o : Option ℕ) → Fair w (popOut w r o)
 unfolding popOut given
@@ -78,11 +82,7 @@ clear-fair w = fair-done w (clear w) refl
 
 to-fair : (w : World) (a b : ℕ) → Fair w (clearTo w a b)
 unfolding clearTo done
-to-fair w a b = go (wellFormed (w .head .kind) b)
-  where
-    go : (x : Bool) → Fair w (elim x as (λ z. Outcome) [ false ↦ refused w 5 | true ↦ done (fresh (w .head .kind) (size w) true a b) 0 ])
-    go false = fair-refused w 5
-    go true = fair-done w (done (fresh (w .head .kind) (size w) true a b) 0) refl
+to-fair w a b = fair-unless (keyCode (w .head .kind) a b) w _ (fair-done w (done (fresh (w .head .kind) (size w) true a b) 0) refl)
 
 top-fair : (w : World) → Fair w (top w)
 unfolding top
@@ -92,25 +92,24 @@ len-fair : (w : World) → Fair w (len w)
 unfolding len
 len-fair w = fair-done w (len w) refl
 
-made-fair : (kind : ℕ) (keys values next back : List ℕ) → Fair (blank 0 keys values next back) (made kind keys values next back)
+made-fair : (kind : Kind) (keys values next back : List ℕ) → Fair (blank (bare 0) keys values next back) (made kind keys values next back)
 unfolding made done
 made-fair kind keys values next back = go (fitting (blank kind keys values next back))
   where
-    go : (x : Bool) → Fair (blank 0 keys values next back) (elim x as (λ z. Outcome) [ false ↦ refused (blank 0 keys values next back) 1 | true ↦ done (fresh kind (length next) false 0 0) 0 ])
-    go false = fair-refused (blank 0 keys values next back) 1
-    go true = fair-done (blank 0 keys values next back) (done (fresh kind (length next) false 0 0) 0) refl
+    go : (x : Bool) → Fair (blank (bare 0) keys values next back) (elim x as (λ z. Outcome) [ false ↦ refused (blank (bare 0) keys values next back) 1 | true ↦ done (fresh kind (length next) false 0 0) 0 ])
+    go false = fair-refused (blank (bare 0) keys values next back) 1
+    go true = fair-done (blank (bare 0) keys values next back) (done (fresh kind (length next) false 0 0) 0) refl
 
-madeAt-fair : (kind a b : ℕ) (keys values next back : List ℕ) → Fair (blank 0 keys values next back) (madeAt kind a b keys values next back)
+madeAt-fair : (kind : Kind) (a b : ℕ) (keys values next back : List ℕ) → Fair (blank (bare 0) keys values next back) (madeAt kind a b keys values next back)
 unfolding madeAt done
-madeAt-fair kind a b keys values next back = go (fitting (blank kind keys values next back)) (wellFormed kind b)
+madeAt-fair kind a b keys values next back = go (fitting (blank kind keys values next back))
   where
-    go : (x y : Bool) → Fair (blank 0 keys values next back) (elim x as (λ z. Outcome) [
-      | false ↦ refused (blank 0 keys values next back) 1
-      | true ↦ elim y as (λ z. Outcome) [ false ↦ refused (blank 0 keys values next back) 5 | true ↦ done (fresh kind (length next) true a b) 0 ]
+    go : (x : Bool) → Fair (blank (bare 0) keys values next back) (elim x as (λ z. Outcome) [
+      | false ↦ refused (blank (bare 0) keys values next back) 1
+      | true ↦ unless (keyCode kind a b) (blank (bare 0) keys values next back) (done (fresh kind (length next) true a b) 0)
     ])
-    go false y = fair-refused (blank 0 keys values next back) 1
-    go true false = fair-refused (blank 0 keys values next back) 5
-    go true true = fair-done (blank 0 keys values next back) (done (fresh kind (length next) true a b) 0) refl
+    go false = fair-refused (blank (bare 0) keys values next back) 1
+    go true = fair-unless (keyCode kind a b) (blank (bare 0) keys values next back) _ (fair-done (blank (bare 0) keys values next back) (done (fresh kind (length next) true a b) 0) refl)
 
 -- the same of a listing: nothing is written, and the count is 0
 unfoldable pub FairList : World → List ℕ → List ℕ → Listing → Type 0
@@ -140,8 +139,8 @@ pub record RefusedChangesNothing : Type 0 where
   pub clearTo : (w : World) (a b : ℕ) → Fair w (clearedTo w a b)
   pub top : (w : World) → Fair w (topRead w)
   pub len : (w : World) → Fair w (lenRead w)
-  pub new : (kind : ℕ) (keys values next back : List ℕ) → Fair (blank 0 keys values next back) (made kind keys values next back)
-  pub newAt : (kind a b : ℕ) (keys values next back : List ℕ) → Fair (blank 0 keys values next back) (madeAt kind a b keys values next back)
+  pub new : (kind : Kind) (keys values next back : List ℕ) → Fair (blank (bare 0) keys values next back) (made kind keys values next back)
+  pub newAt : (kind : Kind) (a b : ℕ) (keys values next back : List ℕ) → Fair (blank (bare 0) keys values next back) (madeAt kind a b keys values next back)
   pub list : (w : World) (ks vs : List ℕ) → FairList w ks vs (listed w ks vs)
 
 pub refused-changes-nothing : RefusedChangesNothing
@@ -189,22 +188,22 @@ module _ (w : World) (t : Typed (w .links)) where
 
 -- ---- the two fresh calls
 
-module _ (kind : ℕ) (keys values next back : List ℕ) where
+module _ (kind : Kind) (keys values next back : List ℕ) where
   made-by : (x : Bool) → fitting (blank kind keys values next back) ≡ x
-      → made kind keys values next back ≡ (elim x as (λ z. Outcome) [ false ↦ refused (blank 0 keys values next back) 1 | true ↦ done (fresh kind (length next) false 0 0) 0 ])
+      → made kind keys values next back ≡ (elim x as (λ z. Outcome) [ false ↦ refused (blank (bare 0) keys values next back) 1 | true ↦ done (fresh kind (length next) false 0 0) 0 ])
   unfolding made
-  made-by x e = ap (λ (x : Bool). elim x as (λ z. Outcome) [ false ↦ refused (blank 0 keys values next back) 1 | true ↦ done (fresh kind (length next) false 0 0) 0 ]) e
+  made-by x e = ap (λ (x : Bool). elim x as (λ z. Outcome) [ false ↦ refused (blank (bare 0) keys values next back) 1 | true ↦ done (fresh kind (length next) false 0 0) 0 ]) e
 
   madeCore-by : (x : Bool) → fitting (blank kind keys values next back) ≡ x
-      → madeCore kind keys values next back ≡ (elim x as (λ z. Outcome) [ false ↦ refused (blank 0 keys values next back) 1 | true ↦ done (freshCore kind (length next) false 0 0) 0 ])
+      → madeCore kind keys values next back ≡ (elim x as (λ z. Outcome) [ false ↦ refused (blank (bare 0) keys values next back) 1 | true ↦ done (freshCore kind (length next) false 0 0) 0 ])
   unfolding madeCore
-  madeCore-by x e = ap (λ (x : Bool). elim x as (λ z. Outcome) [ false ↦ refused (blank 0 keys values next back) 1 | true ↦ done (freshCore kind (length next) false 0 0) 0 ]) e
+  madeCore-by x e = ap (λ (x : Bool). elim x as (λ z. Outcome) [ false ↦ refused (blank (bare 0) keys values next back) 1 | true ↦ done (freshCore kind (length next) false 0 0) 0 ]) e
 
   made-fresh : fitting (blank kind keys values next back) ≡ true → freshCore kind (length next) false 0 0 ≡ fresh kind (length next) false 0 0
   unfolding blank
   made-fresh e =
       let f : Fit (blank kind keys values next back) = fitting-fit (blank kind keys values next back) e in
-      fresh-core kind (length next) false 0 0 (f .kindLow) (f .kindHigh) (f .small) (λ q. refl) (λ q. refl) (λ q. refl)
+      fresh-core kind (length next) false 0 0 (f .kindOk) (f .small) (λ q. refl) (λ q. refl) (proper-zero kind)
 
   -- the core does what document 01 says, on any pool
   pub made-core : madeCore kind keys values next back ≡ made kind keys values next back
@@ -221,50 +220,51 @@ module _ (kind : ℕ) (keys values next back : List ℕ) where
       let f : Fit (blank kind keys values next back) = fitting-fit (blank kind keys values next back) e in (
         made-by true e,
         subst (λ (o : Outcome). Follows (o .world) (empty none) (run 0 (length next))) (sym (made-by true e))
-            (fresh-follows kind (length next) false 0 0 (f .kindLow) (f .kindHigh) (f .small) (λ q. refl) (λ q. refl) (λ q. refl)),
+            (fresh-follows kind (length next) false 0 0 (f .kindOk) (f .small) (λ q. refl) (λ q. refl) (proper-zero kind)),
       )
 
   module _ (a b : ℕ) where
-    madeAt-by : (x y : Bool) → fitting (blank kind keys values next back) ≡ x → wellFormed kind b ≡ y → madeAt kind a b keys values next back ≡ (elim x as (λ z. Outcome) [
-      | false ↦ refused (blank 0 keys values next back) 1
-      | true ↦ elim y as (λ z. Outcome) [ false ↦ refused (blank 0 keys values next back) 5 | true ↦ done (fresh kind (length next) true a b) 0 ]
+    madeAt-by : (x : Bool) (y : ℕ) → fitting (blank kind keys values next back) ≡ x → keyCode kind a b ≡ y → madeAt kind a b keys values next back ≡ (elim x as (λ z. Outcome) [
+      | false ↦ refused (blank (bare 0) keys values next back) 1
+      | true ↦ unless y (blank (bare 0) keys values next back) (done (fresh kind (length next) true a b) 0)
     ])
     unfolding madeAt
-    madeAt-by x y e p = ap₂ (λ (x y : Bool). elim x as (λ z. Outcome) [
-      | false ↦ refused (blank 0 keys values next back) 1
-      | true ↦ elim y as (λ z. Outcome) [ false ↦ refused (blank 0 keys values next back) 5 | true ↦ done (fresh kind (length next) true a b) 0 ]
+    madeAt-by x y e p = ap₂ (λ (x : Bool) (y : ℕ). elim x as (λ z. Outcome) [
+      | false ↦ refused (blank (bare 0) keys values next back) 1
+      | true ↦ unless y (blank (bare 0) keys values next back) (done (fresh kind (length next) true a b) 0)
     ]) e p
 
-    atCore-by : (x y : Bool) → fitting (blank kind keys values next back) ≡ x → wellFormed kind b ≡ y → madeAtCore kind a b keys values next back ≡ (elim x as (λ z. Outcome) [
-      | false ↦ refused (blank 0 keys values next back) 1
-      | true ↦ elim y as (λ z. Outcome) [ false ↦ refused (blank 0 keys values next back) 5 | true ↦ done (freshCore kind (length next) true a b) 0 ]
+    atCore-by : (x : Bool) (y : ℕ) → fitting (blank kind keys values next back) ≡ x → keyCode kind a b ≡ y → madeAtCore kind a b keys values next back ≡ (elim x as (λ z. Outcome) [
+      | false ↦ refused (blank (bare 0) keys values next back) 1
+      | true ↦ unless y (blank (bare 0) keys values next back) (done (freshCore kind (length next) true a b) 0)
     ])
     unfolding madeAtCore
-    atCore-by x y e p = ap₂ (λ (x y : Bool). elim x as (λ z. Outcome) [
-      | false ↦ refused (blank 0 keys values next back) 1
-      | true ↦ elim y as (λ z. Outcome) [ false ↦ refused (blank 0 keys values next back) 5 | true ↦ done (freshCore kind (length next) true a b) 0 ]
+    atCore-by x y e p = ap₂ (λ (x : Bool) (y : ℕ). elim x as (λ z. Outcome) [
+      | false ↦ refused (blank (bare 0) keys values next back) 1
+      | true ↦ unless y (blank (bare 0) keys values next back) (done (freshCore kind (length next) true a b) 0)
     ]) e p
 
-    at-fresh : fitting (blank kind keys values next back) ≡ true → wellFormed kind b ≡ true → freshCore kind (length next) true a b ≡ fresh kind (length next) true a b
+    at-fresh : fitting (blank kind keys values next back) ≡ true → keyCode kind a b ≡ 0 → freshCore kind (length next) true a b ≡ fresh kind (length next) true a b
     unfolding blank
     at-fresh e p =
         let f : Fit (blank kind keys values next back) = fitting-fit (blank kind keys values next back) e in
-        fresh-core kind (length next) true a b (f .kindLow) (f .kindHigh) (f .small) (λ q. absurd (true≢false q)) (λ q. absurd (true≢false q)) (well-formed-one kind b p)
+        fresh-core kind (length next) true a b (f .kindOk) (f .small) (λ q. absurd (true≢false q)) (λ q. absurd (true≢false q)) (key-proper kind a b p)
 
     pub madeAt-core : madeAtCore kind a b keys values next back ≡ madeAt kind a b keys values next back
-    madeAt-core = go (fitting (blank kind keys values next back)) (wellFormed kind b) refl refl
+    unfolding unless
+    madeAt-core = go (fitting (blank kind keys values next back)) (keyCode kind a b) refl refl
       where
-        go : (x y : Bool) → fitting (blank kind keys values next back) ≡ x → wellFormed kind b ≡ y → madeAtCore kind a b keys values next back ≡ madeAt kind a b keys values next back
+        go : (x : Bool) (y : ℕ) → fitting (blank kind keys values next back) ≡ x → keyCode kind a b ≡ y → madeAtCore kind a b keys values next back ≡ madeAt kind a b keys values next back
         go false y e p = atCore-by false y e p ∙ sym (madeAt-by false y e p)
-        go true false e p = atCore-by true false e p ∙ sym (madeAt-by true false e p)
-        go true true e p = atCore-by true true e p ∙ ap (λ (x : World). done x 0) (at-fresh e p) ∙ sym (madeAt-by true true e p)
+        go true (suc c) e p = atCore-by true (suc c) e p ∙ sym (madeAt-by true (suc c) e p)
+        go true zero e p = atCore-by true 0 e p ∙ ap (λ (x : World). done x 0) (at-fresh e p) ∙ sym (madeAt-by true 0 e p)
 
-    pub madeAt-follows : fitting (blank kind keys values next back) ≡ true → wellFormed kind b ≡ true
+    pub madeAt-follows : fitting (blank kind keys values next back) ≡ true → keyCode kind a b ≡ 0
         → (madeAt kind a b keys values next back ≡ done (fresh kind (length next) true a b) 0) × Follows (madeAt kind a b keys values next back .world) (empty (some (ordered kind a b))) (run 0 (length next))
-    unfolding blank done topIn
+    unfolding blank done topIn unless
     madeAt-follows e p =
         let f : Fit (blank kind keys values next back) = fitting-fit (blank kind keys values next back) e in (
-          madeAt-by true true e p,
-          subst (λ (o : Outcome). Follows (o .world) (empty (some (ordered kind a b))) (run 0 (length next))) (sym (madeAt-by true true e p))
-              (fresh-follows kind (length next) true a b (f .kindLow) (f .kindHigh) (f .small) (λ q. absurd (true≢false q)) (λ q. absurd (true≢false q)) (well-formed-one kind b p)),
+          madeAt-by true 0 e p,
+          subst (λ (o : Outcome). Follows (o .world) (empty (some (ordered kind a b))) (run 0 (length next))) (sym (madeAt-by true 0 e p))
+              (fresh-follows kind (length next) true a b (f .kindOk) (f .small) (λ q. absurd (true≢false q)) (λ q. absurd (true≢false q)) (key-proper kind a b p)),
         )

@@ -3,14 +3,15 @@ use mathlib.Core.Bool.{true, false}
 use mathlib.Core.List.{List, [], _∷_, _++_, map}
 use mathlib.Core.Option.{Option, none, some}
 use Prim.Native.Nat.{ℕ, _+_, _-_}
-use lib.Dec.{eqb}
 use lib.ListN.{length, getD, set, drop}
 use Rattle.rule.specs.Lists.{join}
 use Rattle.rule.specs.Rule.{Step, keep, held, push as rulePush, constrain as ruleConstrain, pop as rulePop}
-use Rattle.keys.specs.Ordered.{width, ordered, wellFormed}
+use Rattle.keys.specs.declared.kind.Kind.{Kind}
+use Rattle.keys.specs.Table.{bare}
+use Rattle.keys.specs.Ordered.{width, ordered, isWide}
 use Rattle.pool.specs.World.{freeChain, World, blank, resized, storeKey, word0, word1, keyAt, topKey, size, chain, within}
 use Rattle.pool.specs.Lay.{heap, withFree, lay, fresh, headAfter}
-use Rattle.engine.specs.Outcome.{Outcome, Listing, listing, listUnless, roomFor, refused, done, given, checked}
+use Rattle.engine.specs.Outcome.{Outcome, Listing, listing, listUnless, roomFor, refused, done, given, unless, keyCode, checked}
 use Rattle.pool.specs.Examine.{examined, fitting}
 
 -- ---- the calls on a sound world; a batch is a run of these
@@ -25,15 +26,12 @@ pushInto w a b v (s ∷ free) = done (record {
   values = set (w .values) s v;
 }) 0
 
--- 5 for a second word that must be 0, then 6 for a key above the top, then 7 for no free slot
+-- 5 for the key by itself, then 6 for a key above the top, then 7 for no free slot
 unfoldable pub push : World → ℕ → ℕ → ℕ → Outcome
-push w a b v = elim (wellFormed (w .head .kind) b) [
-  | false ↦ refused w 5
-  | true ↦ elim (within (w .head .topped) (ordered (w .head .kind) a b) (topKey w)) [
-    | false ↦ refused w 6
-    | true ↦ pushInto w a b v (chain w freeChain)
-  ]
-]
+push w a b v = unless (keyCode (w .head .kind) a b) w (elim (within (w .head .topped) (ordered (w .head .kind) a b) (topKey w)) [
+  | false ↦ refused w 6
+  | true ↦ pushInto w a b v (chain w freeChain)
+])
 
 -- "The call reports the entries moved, the length of the drained chain."
 unfoldable pub constrain : World → Outcome
@@ -61,7 +59,7 @@ unfoldable pub clear : World → Outcome
 clear w = done (fresh (w .head .kind) (size w) false 0 0) 0
 
 unfoldable pub clearTo : World → ℕ → ℕ → Outcome
-clearTo w a b = elim (wellFormed (w .head .kind) b) [ false ↦ refused w 5 | true ↦ done (fresh (w .head .kind) (size w) true a b) 0 ]
+clearTo w a b = unless (keyCode (w .head .kind) a b) w (done (fresh (w .head .kind) (size w) true a b) 0)
 
 -- "Top, length .. read only."
 unfoldable pub top : World → Outcome
@@ -96,16 +94,16 @@ lenRead w = checked w (len w)
 -- ---- the two fresh calls, which get a kind and a pool
 
 -- 1 if the kind or the slices do not fit; the pool may hold anything
-unfoldable pub made : ℕ → List ℕ → List ℕ → List ℕ → List ℕ → Outcome
+unfoldable pub made : Kind → List ℕ → List ℕ → List ℕ → List ℕ → Outcome
 made kind keys values next back = elim (fitting (blank kind keys values next back)) [
-  | false ↦ refused (blank 0 keys values next back) 1
+  | false ↦ refused (blank (bare 0) keys values next back) 1
   | true ↦ done (fresh kind (length next) false 0 0) 0
 ]
 
-unfoldable pub madeAt : ℕ → ℕ → ℕ → List ℕ → List ℕ → List ℕ → List ℕ → Outcome
+unfoldable pub madeAt : Kind → ℕ → ℕ → List ℕ → List ℕ → List ℕ → List ℕ → Outcome
 madeAt kind a b keys values next back = elim (fitting (blank kind keys values next back)) [
-  | false ↦ refused (blank 0 keys values next back) 1
-  | true ↦ elim (wellFormed kind b) [ false ↦ refused (blank 0 keys values next back) 5 | true ↦ done (fresh kind (length next) true a b) 0 ]
+  | false ↦ refused (blank (bare 0) keys values next back) 1
+  | true ↦ unless (keyCode kind a b) (blank (bare 0) keys values next back) (done (fresh kind (length next) true a b) 0)
 ]
 
 -- ---- listing
@@ -116,7 +114,7 @@ over new old = new ++ drop (length new) old
 
 -- a slot's key words, as they lie in the pool
 unfoldable pub wordsAt : World → ℕ → List ℕ
-wordsAt w s = elim (eqb (w .head .kind) 4) [ true ↦ word0 w s ∷ word1 w s ∷ [] | false ↦ word0 w s ∷ [] ]
+wordsAt w s = elim (isWide (w .head .kind)) [ true ↦ word0 w s ∷ word1 w s ∷ [] | false ↦ word0 w s ∷ [] ]
 
 -- "List order: waiting chain, then buckets 0 upwards, each front to back .. code 4 if either is too short."
 unfoldable pub list : World → List ℕ → List ℕ → Listing

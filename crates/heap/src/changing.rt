@@ -12,8 +12,8 @@ ghost use Rattle.engine.specs.Outcome.{answered};
 ghost use Rattle.heap.specs.Answers.{popAnswered};
 ghost use Rattle.heap.specs.Calls.{pushed, popped, constrained, cleared, clearedTo};
 
-// Takes an entry. Code 5 for a second key word in kinds 1 to 3, 6 for a key above the top, 7 for no
-// free slot.
+// Takes an entry. Code 5 for a key that is not well-formed, 6 for a key above the top, 7 for no free
+// slot.
 pub fn push(
     state: State,
     keys: &mut [u64],
@@ -175,7 +175,7 @@ pub fn clear(
     }
 }
 
-// Drops every entry and makes this key the top. Code 5 for a second key word in kinds 1 to 3.
+// Drops every entry and makes this key the top. Code 5 for a key that is not well-formed.
 pub fn clear_to(
     state: State,
     keys: &mut [u64],
@@ -196,9 +196,10 @@ pub fn clear_to(
         };
     }
     let kind = state.head.kind;
-    if !keys::well_formed(kind, key1) {
+    let told = engine::key_code(kind, key0, key1);
+    if told != 0 {
         return Moves {
-            code: 5,
+            code: told,
             state,
             moves: 0,
         };

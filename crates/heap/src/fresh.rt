@@ -1,5 +1,7 @@
 // The two fresh calls. They get no state, and the pool may hold anything.
 use crate::answers::Answer;
+use keys::Kind;
+use keys::Table;
 use pool::Head;
 use pool::State;
 ghost use mathlib.Core.Path.{_≡_};
@@ -12,8 +14,17 @@ ghost use Rattle.heap.specs.Calls.{made, madeAt};
 fn no_state() -> State
     ensures { λ r. ⌜ r ≡ noState ⌝ }
 {
+    let kind = Kind {
+        number: 0,
+        table: Table {
+            first: 0,
+            second: 0,
+            third: 0,
+            fourth: 0,
+        },
+    };
     let head = Head {
-        kind: 0,
+        kind,
         len: 0,
         topped: false,
         top0: 0,
@@ -29,7 +40,7 @@ fn no_state() -> State
 
 // An empty heap with no top.
 pub fn new(
-    kind: u32,
+    kind: Kind,
     keys: &mut [u64],
     values: &mut [u64],
     next: &mut [u32],
@@ -52,7 +63,7 @@ pub fn new(
 
 // An empty heap whose top is this key: no greater key will be taken.
 pub fn new_at(
-    kind: u32,
+    kind: Kind,
     key0: u64,
     key1: u64,
     keys: &mut [u64],
@@ -68,9 +79,10 @@ pub fn new_at(
             state: no_state(),
         };
     }
-    if !keys::well_formed(kind, key1) {
+    let told = engine::key_code(kind, key0, key1);
+    if told != 0 {
         return Answer {
-            code: 5,
+            code: told,
             state: no_state(),
         };
     }

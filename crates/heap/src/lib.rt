@@ -5,7 +5,7 @@
 // no byte and hands back the state that it got. What each call gives is one equation, by the definition
 // of its name in specs/Calls.antt.
 //
-// The pool is four slices for n slots, n at most 4,096: n key words (2n in kind 4), n values, n next
+// The pool is four slices for n slots, n at most 4,096: n key words (2n in kinds 4 and 5), n values, n next
 // links and n back links. The state goes in by value and comes back by value.
 mod answers;
 mod changing;

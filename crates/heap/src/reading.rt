@@ -4,6 +4,7 @@ use crate::answers::Listed;
 use crate::answers::Top;
 use crate::answers::TopRead;
 use crate::answers::top_if;
+use keys::Kind;
 use pool::State;
 ghost use mathlib.Core.Path.{_≡_};
 ghost use mathlib.Core.Bool.{false};
@@ -54,13 +55,13 @@ pub fn examine(state: State, keys: &[u64], values: &[u64], next: &[u32], back: &
 }
 
 // Do `len` entries find room in so many key words and values?
-fn has_room(kind: u32, len: usize, words: usize, values: usize) -> bool
+fn has_room(kind: Kind, len: usize, words: usize, values: usize) -> bool
     ensures { λ r. ⌜ r ≡ roomFor kind len words values ⌝ }
 {
     if values < len {
         return false;
     }
-    if kind == 4 {
+    if keys::is_wide(kind) {
         len <= words / 2
     } else {
         len <= words

@@ -1,6 +1,7 @@
 // Keys made from their words and back, compared and measured: a line for each test, with its outcome.
 mod rounds;
 
+use keys::Kind;
 use keys::Pair;
 use keys::Plain;
 use keys::Reversed;
@@ -30,28 +31,29 @@ fn signed_above(a: i64, b: i64) -> bool {
     }
     let v = Signed(a).word();
     let w = Signed(b).word();
-    Signed(a).above(Signed(b)) && keys::above(2, v, 0, w, 0)
+    Signed(a).above(Signed(b)) && keys::above(Kind::bare(2), v, 0, w, 0)
 }
 
 fn plain_above(a: u64, b: u64) -> bool {
     if Plain::from_word(b).above(Plain::from_word(a)) {
         return false;
     }
-    Plain::from_word(a).above(Plain::from_word(b)) && keys::above(1, a, 0, b, 0)
+    Plain::from_word(a).above(Plain::from_word(b)) && keys::above(Kind::bare(1), a, 0, b, 0)
 }
 
 fn reversed_above(a: u64, b: u64) -> bool {
     if Reversed::from_word(b).above(Reversed::from_word(a)) {
         return false;
     }
-    Reversed::from_word(a).above(Reversed::from_word(b)) && keys::above(3, a, 0, b, 0)
+    Reversed::from_word(a).above(Reversed::from_word(b)) && keys::above(Kind::bare(3), a, 0, b, 0)
 }
 
 fn pair_above(a0: u64, a1: u64, b0: u64, b1: u64) -> bool {
     if Pair::from_words(b0, b1).above(Pair::from_words(a0, a1)) {
         return false;
     }
-    Pair::from_words(a0, a1).above(Pair::from_words(b0, b1)) && keys::above(4, a0, a1, b0, b1)
+    Pair::from_words(a0, a1).above(Pair::from_words(b0, b1))
+        && keys::above(Kind::bare(4), a0, a1, b0, b1)
 }
 
 fn signed_lines() {
@@ -115,8 +117,8 @@ fn other_lines() {
 
 // Document 01's example 7. The two are proved as well: `expect` asks for a proof that they hold.
 fn distance_lines() {
-    let far = keys::distance(4, 1, 0, 0, 18446744073709551615);
-    let near = keys::distance(4, 1, 1, 1, 0);
+    let far = keys::distance(Kind::bare(4), 1, 0, 0, 18446744073709551615);
+    let near = keys::distance(Kind::bare(4), 1, 1, 1, 0);
     check::expect(far == 65);
     check::expect(near == 1);
     line(

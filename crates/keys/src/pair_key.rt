@@ -3,7 +3,7 @@ use crate::word::apart;
 ghost use mathlib.Core.Path.{_≡_};
 ghost use lib.Dec.{ltb};
 ghost use Rattle.rule.specs.Width.{distance};
-ghost use Rattle.keys.specs.Ordered.{width, ordered};
+ghost use Rattle.keys.specs.Ordered.{pairForm};
 
 pub struct Pair(pub u64, pub u64);
 
@@ -27,7 +27,7 @@ impl Pair {
     }
 
     pub fn above(self, other: Pair) -> bool
-        ensures { λ r. ⌜ r ≡ ltb (ordered 4 (other .0) (other .1)) (ordered 4 (self .0) (self .1)) ⌝ }
+        ensures { λ r. ⌜ r ≡ ltb (pairForm (other .0) (other .1)) (pairForm (self .0) (self .1)) ⌝ }
     {
         if self.0 == other.0 {
             return self.1 > other.1;
@@ -38,7 +38,7 @@ impl Pair {
     // One count of leading zeros: of the first words' differing bits, or, where those words are equal, of
     // the second words'.
     pub fn distance(self, other: Pair) -> u32
-        ensures { λ r. ⌜ r ≡ distance (width 4) (ordered 4 (self .0) (self .1)) (ordered 4 (other .0) (other .1)) ⌝ }
+        ensures { λ r. ⌜ r ≡ distance 128 (pairForm (self .0) (self .1)) (pairForm (other .0) (other .1)) ⌝ }
     {
         if self.0 == other.0 {
             return apart(self.1, other.1);

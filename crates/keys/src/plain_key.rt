@@ -3,7 +3,7 @@ use crate::word::apart;
 ghost use mathlib.Core.Path.{_≡_};
 ghost use lib.Dec.{ltb};
 ghost use Rattle.rule.specs.Width.{distance};
-ghost use Rattle.keys.specs.Ordered.{width, ordered};
+ghost use Rattle.keys.specs.Parts.{unsigned, formed};
 
 pub struct Plain(pub u64);
 
@@ -21,13 +21,13 @@ impl Plain {
     }
 
     pub fn above(self, other: Plain) -> bool
-        ensures { λ r. ⌜ r ≡ ltb (ordered 1 (other .0) 0) (ordered 1 (self .0) 0) ⌝ }
+        ensures { λ r. ⌜ r ≡ ltb (formed 64 unsigned (other .0)) (formed 64 unsigned (self .0)) ⌝ }
     {
         self.0 > other.0
     }
 
     pub fn distance(self, other: Plain) -> u32
-        ensures { λ r. ⌜ r ≡ distance (width 1) (ordered 1 (self .0) 0) (ordered 1 (other .0) 0) ⌝ }
+        ensures { λ r. ⌜ r ≡ distance 64 (formed 64 unsigned (self .0)) (formed 64 unsigned (other .0)) ⌝ }
     {
         apart(self.0, other.0)
     }

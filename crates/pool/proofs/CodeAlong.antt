@@ -4,10 +4,11 @@ use mathlib.Core.Path.{_≡_, sym, ap, _∙_}
 use mathlib.Core.Bool.{Bool, cond}
 use mathlib.Core.List.{List}
 use lib.Dec.{ltb}
+use Rattle.keys.specs.declared.kind.Kind.{Kind}
 use Rattle.pool.specs.World.{keyWord0, slotKey}
 use Rattle.pool.specs.Core.{better}
 
-module _ (kind : ℕ) (keys : List ℕ) where
+module _ (kind : Kind) (keys : List ℕ) where
   -- a is the first word of the slot that a link leads to
   pub word-as : {link x a p : ℕ} → x ≡ link → p ≡ a → a ≡ keyWord0 kind keys (link - 1) → p ≡ keyWord0 kind keys (x - 1)
   word-as e f g = rw (e, f) g

@@ -12,7 +12,9 @@ use borrow.Author.Tests.{eq-eqb, ne-eqb, le-leb, lt-leb, lt-ltb, le-ltb, ltb-tru
 use lib.Dec.{leb, ltb, eqb}
 use lib.ListN.{length, getD, take}
 use Rattle.rule.specs.Width.{distance}
-use Rattle.keys.specs.Ordered.{width, words}
+use Rattle.keys.specs.declared.kind.Kind.{Kind}
+use Rattle.keys.specs.Ordered.{width, words, proper}
+use Rattle.keys.specs.Table.{kindFits}
 use Rattle.pool.specs.declared.state.Head.{Head}
 use Rattle.pool.specs.World.{waitingChain, freeChain, Links, World, size, firstOf, lastOf, keyWord0, keyWord1, slotKey, topOf, place, within}
 use Rattle.pool.specs.Sound.{limit}
@@ -37,16 +39,16 @@ swap true true v b true = refl
 swap true true v b false = and-false (v && b)
 
 -- the order in which the code tests: the length of the keys last
-pub fits-order : (kind keys values next back : ℕ)
-    → fits kind keys values next back ≡ (leb 1 kind && leb kind 4 && leb next limit && eqb values next && eqb back next && eqb keys (words kind * next))
+pub fits-order : (kind : Kind) (keys values next back : ℕ)
+    → fits kind keys values next back ≡ (kindFits kind && leb next limit && eqb values next && eqb back next && eqb keys (words kind * next))
 unfolding fits
-fits-order kind keys values next back = swap (leb 1 kind && leb kind 4) (eqb keys (words kind * next)) (eqb values next) (eqb back next) (leb next limit)
+fits-order kind keys values next back = swap (kindFits kind) (eqb keys (words kind * next)) (eqb values next) (eqb back next) (leb next limit)
 
-pub headed-order : (h : Head) → headed h ≡ ((eqb (h .kind) 4 || eqb (h .top1) 0) && (h .topped || (eqb (h .top0) 0 && eqb (h .top1) 0)))
+pub headed-order : (h : Head) → headed h ≡ (proper (h .kind) (h .top0) (h .top1) && (h .topped || (eqb (h .top0) 0 && eqb (h .top1) 0)))
 unfolding headed
-headed-order h = and-comm (h .topped || (eqb (h .top0) 0 && eqb (h .top1) 0)) (eqb (h .kind) 4 || eqb (h .top1) 0)
+headed-order h = and-comm (h .topped || (eqb (h .top0) 0 && eqb (h .top1) 0)) (proper (h .kind) (h .top0) (h .top1))
 
-pub headed-bare : (h : Head) → (eqb (h .kind) 4 || eqb (h .top1) 0) ≡ true → h .topped ≡ false → h .top0 ≡ 0 → headed h ≡ eqb (h .top1) 0
+pub headed-bare : (h : Head) → proper (h .kind) (h .top0) (h .top1) ≡ true → h .topped ≡ false → h .top0 ≡ 0 → headed h ≡ eqb (h .top1) 0
 headed-bare h p q e = headed-order h ∙ rw (p, q, eq-eqb (h .top0) 0 e)
 
 -- ---- one slot
@@ -56,31 +58,41 @@ module _ (h : Head) (keys back : List ℕ) (c p s : ℕ) where
   unfolding standsAt
   stands-astray z = rw (ne-eqb (getD back s 0) p z)
 
-  stands-by : {t : Bool} → h .topped ≡ t
-      → standsAt h keys back c p s ≡ (eqb (getD back s 0) p && within t (slotKey (h .kind) keys s) (topOf h) && eqb (place t (distance (width (h .kind)) (slotKey (h .kind) keys s) (topOf h))) c)
-  unfolding standsAt
-  stands-by t = rw (← t)
+  -- the words of the key in the slot, and its ordered form
+  abbrev key0 : ℕ
+  key0 = keyWord0 (h .kind) keys s
 
-  pub stands-waiting : getD back s 0 ≡ p → h .topped ≡ false → standsAt h keys back c p s ≡ eqb c waitingChain
-  unfolding within place
-  stands-waiting e t = stands-by t ∙ rw (eq-eqb (getD back s 0) p e) (eqb-sym waitingChain c)
+  abbrev key1 : ℕ
+  key1 = keyWord1 (h .kind) keys s
 
-  module _ (e : getD back s 0 ≡ p) (t : h .topped ≡ true) where
-    -- the key in the slot
-    abbrev key : ℕ
-    key = slotKey (h .kind) keys s
+  abbrev key : ℕ
+  key = slotKey (h .kind) keys s
 
-    stands-topped : standsAt h keys back c p s ≡ (leb key (topOf h) && eqb (distance (width (h .kind)) key (topOf h)) c)
+  module _ (e : getD back s 0 ≡ p) where
+    stands-by : {q t : Bool} → proper (h .kind) key0 key1 ≡ q → h .topped ≡ t
+        → standsAt h keys back c p s ≡ ((q && within t key (topOf h)) && eqb (place t (distance (width (h .kind)) key (topOf h))) c)
+    unfolding standsAt
+    stands-by f t = rw (eq-eqb (getD back s 0) p e, f, ← t)
+
+    pub stands-unfit : proper (h .kind) key0 key1 ≡ false → standsAt h keys back c p s ≡ false
+    stands-unfit f = stands-by f refl
+
+    pub stands-waiting : proper (h .kind) key0 key1 ≡ true → h .topped ≡ false → standsAt h keys back c p s ≡ eqb c waitingChain
     unfolding within place
-    stands-topped = stands-by t ∙ rw (eq-eqb (getD back s 0) p e)
+    stands-waiting f t = stands-by f t ∙ eqb-sym waitingChain c
 
-    pub stands-above : ltb (topOf h) key ≡ true → standsAt h keys back c p s ≡ false
-    stands-above u = stands-topped ∙ rw (lt-leb key (topOf h) (ltb-true _ _ u))
+    module _ (f : proper (h .kind) key0 key1 ≡ true) (t : h .topped ≡ true) where
+      stands-topped : standsAt h keys back c p s ≡ (leb key (topOf h) && eqb (distance (width (h .kind)) key (topOf h)) c)
+      unfolding within place
+      stands-topped = stands-by f t
 
-    pub stands-home : ltb (topOf h) key ≡ false → {d : ℕ} → d ≡ distance (width (h .kind)) key (topOf h) → standsAt h keys back c p s ≡ eqb c d
-    stands-home u {d} ed = stands-topped ∙ rw (le-leb key (topOf h) (ltb-false _ _ u), ← ed) (eqb-sym d c)
+      pub stands-above : ltb (topOf h) key ≡ true → standsAt h keys back c p s ≡ false
+      stands-above u = stands-topped ∙ rw (lt-leb key (topOf h) (ltb-true _ _ u))
 
-pub empty-rest : (kind : ℕ) (keys values back : List ℕ) (s : ℕ) → getD back s 0 ≡ 0 → keyWord0 kind keys s ≡ 0 → keyWord1 kind keys s ≡ 0
+      pub stands-home : ltb (topOf h) key ≡ false → {d : ℕ} → d ≡ distance (width (h .kind)) key (topOf h) → standsAt h keys back c p s ≡ eqb c d
+      stands-home u {d} ed = stands-topped ∙ rw (le-leb key (topOf h) (ltb-false _ _ u), ← ed) (eqb-sym d c)
+
+pub empty-rest : (kind : Kind) (keys values back : List ℕ) (s : ℕ) → getD back s 0 ≡ 0 → keyWord0 kind keys s ≡ 0 → keyWord1 kind keys s ≡ 0
     → emptyAt kind keys values back s ≡ eqb (getD values s 0) 0
 unfolding emptyAt
 empty-rest kind keys values back s e f g = rw (e, f, g)
@@ -96,7 +108,7 @@ module _ (h : Head) (k : Links) (keys : List ℕ) (c p s : ℕ) where
   unfolding okBusy
   busy-in l e = rw (lt-ltb s (length (k .next)) l) (sym e)
 
-module _ (kind : ℕ) (k : Links) (keys values : List ℕ) (p s : ℕ) where
+module _ (kind : Kind) (k : Links) (keys values : List ℕ) (p s : ℕ) where
   pub free-out : length (k .next) ≤ s → okFree kind k keys values p s ≡ false
   unfolding okFree
   free-out l = rw (le-ltb s (length (k .next)) l)

@@ -8,32 +8,33 @@ use native.Mathlib.Nat.{zero-add, le-of-lt}
 use borrow.Author.Tests.{ltb-true, ltb-false}
 use native.Mathlib.Omega.{arith}
 use native.Mathlib.Decide.{ℕ-discrete}
-use lib.Dec.{ltb, eqb}
+use lib.Dec.{ltb, leb}
 use lib.ListN.{length, getD, set, take, length-set}
 use lib.Seq.{getD-set-same, getD-set-other, getD-take, take-set-lt}
 use Rattle.rule.specs.Width.{distance}
 use Rattle.rule.proofs.Width.{distance-le}
 use Rattle.rule.specs.Rule.{keep, put, spread as ruleSpread, greatest as ruleGreatest}
+use Rattle.keys.specs.declared.kind.Kind.{Kind}
+use Rattle.keys.specs.Ordered.{proper}
 use Rattle.pool.specs.Chain.{hit, Linked, On}
 use Rattle.pool.proofs.Chains.{hit-same, hit-cases, tally-ge, count-append, linked-agree, total-ge}
 use Rattle.keys.specs.Ordered.{width, words}
 use Rattle.pool.specs.World.{freeChain, Links, World, toppedAt, slotKey, size, firstOf, word0, word1, keyAt, topKey, place, within, home, under}
 use Rattle.pool.specs.Sound.{limit, Fit}
-use Rattle.pool.proofs.Exam.{home-topped, under-topped, leb-is, is-leb, eqb-is}
+use Rattle.pool.proofs.Exam.{home-topped, under-proper, under-topped, and-both, is-leb}
 use Rattle.pool.proofs.Laid.{Laid, Filed, Good, laid-most, touch-laid, laid-total}
 use Rattle.pool.specs.Core.{appended, emptied, greatestFrom, greatestOf, drainFrom, drainChain}
 use Rattle.pool.specs.Lay.{leading}
 use Rattle.pool.proofs.OnChains.{append-touch, append-next, empty-touch, not-hit, less-one, not-none, appended-next, appended-back}
-use Rattle.pool.proofs.Keys.{word1-slim}
-use Rattle.pool.proofs.Push.{width-le}
+use Rattle.keys.proofs.Ordered.{width-le}
 use Rattle.rule.proofs.Width.{nearer, unmoved}
 
 -- ---- the loop of the drain
 
-pub far-lt : (kind a b : ℕ) → distance (width kind) a b < freeChain
+pub far-lt : (kind : Kind) (a b : ℕ) → distance (width kind) a b < freeChain
 far-lt kind a b = let h = distance-le (width kind) a b in let k = width-le kind in omega arith
 
-module _ (kind : ℕ) (keys : List ℕ) (t : ℕ) where
+module _ (kind : Kind) (keys : List ℕ) (t : ℕ) where
   pub drain-laid : (f : ℕ) (lk : Links) (ls : List (List ℕ)) (l m : ℕ) (off : List ℕ) → Laid lk ls off → Linked (lk .next) l off → length off ≤ f
       → Laid (drainFrom f kind keys t l m lk .to) (ruleSpread (width kind) (slotKey kind keys) keep t ls off) [] × (drainFrom f kind keys t l m lk .moves ≡ m + length off)
   unfolding drainFrom ruleSpread put
@@ -154,12 +155,12 @@ leading-is key s (x ∷ xs) = go (ltb (key s) (key x)) refl (leading-is key x xs
     go false e p q = subst (λ (g : ℕ). (key g ≡ max (key s) (max (key x) (ruleGreatest key xs))) × On g (s ∷ x ∷ xs)) (sym (leading-more key s x xs e))
         (three′ (key (leading key s xs)) (key s) (key x) (ruleGreatest key xs) (ltb-false (key s) (key x) e) (q .0), let o = q .1 in omega arith)
 
-greatest-step : (f kind : ℕ) (keys next : List ℕ) (s x : ℕ)
+greatest-step : (f : ℕ) (kind : Kind) (keys next : List ℕ) (s x : ℕ)
     → greatestFrom (suc f) kind keys next (suc x) (suc s) ≡ greatestFrom f kind keys next (getD next x 0) (cond (ltb (slotKey kind keys s) (slotKey kind keys x)) (suc x) (suc s))
 unfolding greatestFrom
 greatest-step f kind keys next s x = rw (not-none (suc x) x refl, less-one x, less-one s) refl
 
-pub greatest-from : (f kind : ℕ) (keys next : List ℕ) (s l : ℕ) (ss : List ℕ) → Linked next l ss → length ss ≤ f → greatestFrom f kind keys next l (suc s) ≡ suc (leading (slotKey kind keys) s ss)
+pub greatest-from : (f : ℕ) (kind : Kind) (keys next : List ℕ) (s l : ℕ) (ss : List ℕ) → Linked next l ss → length ss ≤ f → greatestFrom f kind keys next l (suc s) ≡ suc (leading (slotKey kind keys) s ss)
 unfolding leading greatestFrom
 greatest-from zero kind keys next s l [] k b = refl
 greatest-from zero kind keys next s l (x ∷ xs) k b = absurd (omega arith)
@@ -239,8 +240,7 @@ module _ {w : World} {ls : List (List ℕ)} (g : Good w ls) (c s : ℕ) (ss : Li
   d-fit : Fit (drainedTo w c (leader w s ss))
   unfolding drainedTo
   d-fit = record {
-    kindLow = g .fit .kindLow;
-    kindHigh = g .fit .kindHigh;
+    kindOk = g .fit .kindOk;
     someKeys = g .fit .someKeys ∙ ap (λ (b : ℕ). words (w .head .kind) * b) (sym d-size);
     someValues = g .fit .someValues ∙ sym d-size;
     someBacks = d-back ∙ g .fit .someBacks ∙ sym d-size;
@@ -294,9 +294,18 @@ module _ {w : World} {ls : List (List ℕ)} (g : Good w ls) (c s : ℕ) (ss : Li
           unmoved (width (w .head .kind)) (keyAt w x) (keyAt w (leader w s ss)) (topKey w) (d-nearer x d q (r .0) (r .1))
           ∙ d-dist x (far d q (r .0) x (r .1) .0) d q (r .1)
 
+  -- every key is still one of the kind
+  d-kept : (x : ℕ) → On x (s ∷ ss) → proper (w .head .kind) (word0 w x) (word1 w x) ≡ true
+  d-kept x o = under-proper w x (g .filed .below c k x (subst (On x) (sym e) o))
+
+  d-proper : (d : ℕ) → d < freeChain → (x : ℕ) → (On x (s ∷ ss) × (distance (width (w .head .kind)) (keyAt w x) (keyAt w (leader w s ss)) ≡ d)) ⊎ ((d ≢ c) × On x (getD ls d []))
+      → proper (w .head .kind) (word0 w x) (word1 w x) ≡ true
+  d-proper d q x (inl r) = d-kept x (r .0)
+  d-proper d q x (inr r) = under-proper w x (g .filed .below d q x (r .1))
+
   d-below : (d : ℕ) → d < freeChain → (x : ℕ) → On x (getD (drainedChains w ls c (s ∷ ss)) d []) → under (drainedTo w c (leader w s ss)) x ≡ true
   unfolding drainedTo within
-  d-below d q x o = is-leb (keyAt w x) (keyAt w (leader w s ss)) (go (d-who d x o))
+  d-below d q x o = and-both (proper (w .head .kind) (word0 w x) (word1 w x)) (leb (keyAt w x) (keyAt w (leader w s ss))) (d-proper d q x (d-who d x o)) (is-leb (keyAt w x) (keyAt w (leader w s ss)) (go (d-who d x o)))
     where
       go : (On x (s ∷ ss) × (distance (width (w .head .kind)) (keyAt w x) (keyAt w (leader w s ss)) ≡ d)) ⊎ ((d ≢ c) × On x (getD ls d []))
           → keyAt w x ≤ keyAt w (leader w s ss)
@@ -304,14 +313,7 @@ module _ {w : World} {ls : List (List ℕ)} (g : Good w ls) (c s : ℕ) (ss : Li
       go (inr r) =
           let t = far d q (r .0) x (r .1) .0 in
           le-of-lt (nearer (width (w .head .kind)) {a = keyAt w (leader w s ss)} {b = keyAt w x} {t = topKey w}
-          (leb-is (keyAt w x) (topKey w) (sym (under-topped w x t) ∙ g .filed .below d q x (r .1))) (d-nearer x d q (r .0) (r .1)))
-
-  d-word1 : w .head .kind ≢ 4 → word1 w (leader w s ss) ≡ 0
-  d-word1 n = go (eqb (w .head .kind) 4) refl
-    where
-      go : (t : Bool) → eqb (w .head .kind) 4 ≡ t → word1 w (leader w s ss) ≡ 0
-      go true q = absurd (n (eqb-is (w .head .kind) 4 q))
-      go false q = word1-slim (w .head .kind) (w .keys) (leader w s ss) q
+          (under-topped w x t (g .filed .below d q x (r .1))) (d-nearer x d q (r .0) (r .1)))
 
   d-filed : Filed (drainedTo w c (leader w s ss)) (drainedChains w ls c (s ∷ ss))
   unfolding drainedTo
@@ -324,7 +326,7 @@ module _ {w : World} {ls : List (List ℕ)} (g : Good w ls) (c s : ℕ) (ss : Li
     counted = ap (λ (b : List ℕ). w .head .len + length b) d-free ∙ g .filed .counted ∙ sym d-size;
     noTop0 = λ f. absurd (true≢false f);
     noTop1 = λ f. absurd (true≢false f);
-    oneWord = d-word1;
+    topOfKind = d-kept (leader w s ss) (d-lead .1);
   }
 
   pub drain-good : Good (drainedTo w c (leader w s ss)) (drainedChains w ls c (s ∷ ss))

@@ -10,8 +10,10 @@ use native.Mathlib.Decide.{ℕ-discrete, decLe, decLt}
 use lib.Dec.{T, leb, ltb, eqb, leb→le, le→leb, ltb→lt, lt→ltb, eqb→eq}
 use lib.ListN.{length, getD}
 use lib.Seq.{ext-getD}
-use Rattle.rule.specs.Width.{distance}
 use Rattle.rule.proofs.Width.{distance-le}
+use Rattle.keys.specs.Ordered.{proper}
+use Rattle.keys.specs.Table.{kindFits}
+use Rattle.keys.proofs.Ordered.{width-le}
 use Rattle.pool.specs.Chain.{count, tally, total, tab, walk, Linked, Backed, lastFrom, On}
 use Rattle.pool.proofs.Chains.{hit-same, hit-cases, eqb-same}
 use Rattle.pool.proofs.Chains.{tally-tab-suc, total-tab-suc, sum-tally, sum-full, sum-ones}
@@ -59,7 +61,7 @@ and-right : (a b : Bool) → (a && b) ≡ true → b ≡ true
 and-right true b e = e
 and-right false b e = absurd (false≢true e)
 
-and-both : (a b : Bool) → a ≡ true → b ≡ true → (a && b) ≡ true
+pub and-both : (a b : Bool) → a ≡ true → b ≡ true → (a && b) ≡ true
 and-both true b e f = f
 and-both false b e f = e
 
@@ -333,12 +335,7 @@ pub record Passed (w : World) : Type 0 where
   pub full : total (busyChains w) + length (chain w freeChain) ≡ size w
 
 pub distanceAt-le : (w : World) (s : ℕ) → distanceAt w s ≤ 128
-unfolding width
-distanceAt-le w s = go (eqb (w .head .kind) 4) refl
-  where
-    go : (t : Bool) → eqb (w .head .kind) 4 ≡ t → distance (width (w .head .kind)) (keyAt w s) (topKey w) ≤ 128
-    go true e = rw (e, width) (distance-le 128 (keyAt w s) (topKey w))
-    go false e = rw (e, width) (let h = distance-le 64 (keyAt w s) (topKey w) in omega arith)
+distanceAt-le w s = let h = distance-le (width (w .head .kind)) (keyAt w s) (topKey w) in let k = width-le (w .head .kind) in omega arith
 
 pub home-topped : (w : World) (s : ℕ) → w .head .topped ≡ true → home w s ≡ distanceAt w s
 unfolding place
@@ -348,18 +345,30 @@ pub home-untopped : (w : World) (s : ℕ) → w .head .topped ≡ false → home
 unfolding place
 home-untopped w s e = ap (λ (b : Bool). place b (distanceAt w s)) e
 
-pub under-topped : (w : World) (s : ℕ) → w .head .topped ≡ true → under w s ≡ leb (keyAt w s) (topKey w)
-unfolding within
-under-topped w s e = ap (λ (b : Bool). within b (keyAt w s) (topKey w)) e
+-- a key that may stand is one of the kind, and at most the top
+pub under-proper : (w : World) (s : ℕ) → under w s ≡ true → proper (w .head .kind) (word0 w s) (word1 w s) ≡ true
+under-proper w s e = and-left (proper (w .head .kind) (word0 w s) (word1 w s)) (within (w .head .topped) (keyAt w s) (topKey w)) e
 
-pub under-untopped : (w : World) (s : ℕ) → w .head .topped ≡ false → under w s ≡ true
+pub under-topped : (w : World) (s : ℕ) → w .head .topped ≡ true → under w s ≡ true → keyAt w s ≤ topKey w
 unfolding within
-under-untopped w s e = ap (λ (b : Bool). within b (keyAt w s) (topKey w)) e
+under-topped w s t e =
+    leb-is (keyAt w s) (topKey w) (sym (ap (λ (b : Bool). within b (keyAt w s) (topKey w)) t) ∙ and-right (proper (w .head .kind) (word0 w s) (word1 w s)) (within (w .head .topped) (keyAt w s) (topKey w)) e)
+
+pub is-under : (w : World) (s : ℕ) → proper (w .head .kind) (word0 w s) (word1 w s) ≡ true → within (w .head .topped) (keyAt w s) (topKey w) ≡ true → under w s ≡ true
+is-under w s p q = and-both (proper (w .head .kind) (word0 w s) (word1 w s)) (within (w .head .topped) (keyAt w s) (topKey w)) p q
+
+within-topped : (w : World) (s : ℕ) → w .head .topped ≡ true → keyAt w s ≤ topKey w → within (w .head .topped) (keyAt w s) (topKey w) ≡ true
+unfolding within
+within-topped w s t l = ap (λ (b : Bool). within b (keyAt w s) (topKey w)) t ∙ is-leb (keyAt w s) (topKey w) l
+
+within-untopped : (w : World) (s : ℕ) → w .head .topped ≡ false → within (w .head .topped) (keyAt w s) (topKey w) ≡ true
+unfolding within
+within-untopped w s t = ap (λ (b : Bool). within b (keyAt w s) (topKey w)) t
 
 -- the head's tests
 headed-top0 : (w : World) → headed (w .head) ≡ true → w .head .topped ≡ false → w .head .top0 ≡ 0
 unfolding headed
-headed-top0 w e t = go (w .head .topped) (eqb (w .head .top0) 0) (eqb (w .head .top1) 0) (eqb (w .head .kind) 4 || eqb (w .head .top1) 0) refl t e
+headed-top0 w e t = go (w .head .topped) (eqb (w .head .top0) 0) (eqb (w .head .top1) 0) (proper (w .head .kind) (w .head .top0) (w .head .top1)) refl t e
   where
     go : (a b c d : Bool) → eqb (w .head .top0) 0 ≡ b → a ≡ false → ((a || (b && c)) && d) ≡ true → w .head .top0 ≡ 0
     go true b c d p q r = absurd (true≢false q)
@@ -368,7 +377,7 @@ headed-top0 w e t = go (w .head .topped) (eqb (w .head .top0) 0) (eqb (w .head .
 
 headed-top1 : (w : World) → headed (w .head) ≡ true → w .head .topped ≡ false → w .head .top1 ≡ 0
 unfolding headed
-headed-top1 w e t = go (w .head .topped) (eqb (w .head .top0) 0) (eqb (w .head .top1) 0) (eqb (w .head .kind) 4 || eqb (w .head .top1) 0) refl t e
+headed-top1 w e t = go (w .head .topped) (eqb (w .head .top0) 0) (eqb (w .head .top1) 0) (proper (w .head .kind) (w .head .top0) (w .head .top1)) refl t e
   where
     go : (a b c d : Bool) → eqb (w .head .top1) 0 ≡ c → a ≡ false → ((a || (b && c)) && d) ≡ true → w .head .top1 ≡ 0
     go true b c d p q r = absurd (true≢false q)
@@ -376,27 +385,17 @@ headed-top1 w e t = go (w .head .topped) (eqb (w .head .top0) 0) (eqb (w .head .
     go false true false d p q r = absurd (false≢true r)
     go false false c d p q r = absurd (false≢true r)
 
-headed-kind : (w : World) → headed (w .head) ≡ true → w .head .kind ≢ 4 → w .head .top1 ≡ 0
+headed-kind : (w : World) → headed (w .head) ≡ true → proper (w .head .kind) (w .head .top0) (w .head .top1) ≡ true
 unfolding headed
-headed-kind w e t =
-    go (eqb (w .head .kind) 4) (eqb (w .head .top1) 0) refl refl (and-right (w .head .topped || (eqb (w .head .top0) 0 && eqb (w .head .top1) 0)) (eqb (w .head .kind) 4 || eqb (w .head .top1) 0) e)
-  where
-    go : (a b : Bool) → eqb (w .head .kind) 4 ≡ a → eqb (w .head .top1) 0 ≡ b → (a || b) ≡ true → w .head .top1 ≡ 0
-    go true b p q r = absurd (t (eqb-is _ _ p))
-    go false true p q r = eqb-is _ _ q
-    go false false p q r = absurd (false≢true r)
+headed-kind w e = and-right (w .head .topped || (eqb (w .head .top0) 0 && eqb (w .head .top1) 0)) (proper (w .head .kind) (w .head .top0) (w .head .top1)) e
 
-is-headed : (w : World) → (w .head .topped ≡ false → w .head .top0 ≡ 0) → (w .head .topped ≡ false → w .head .top1 ≡ 0) → (w .head .kind ≢ 4 → w .head .top1 ≡ 0) → headed (w .head) ≡ true
+is-headed : (w : World) → (w .head .topped ≡ false → w .head .top0 ≡ 0) → (w .head .topped ≡ false → w .head .top1 ≡ 0) → proper (w .head .kind) (w .head .top0) (w .head .top1) ≡ true → headed (w .head) ≡ true
 unfolding headed
-is-headed w a b c = and-both (w .head .topped || (eqb (w .head .top0) 0 && eqb (w .head .top1) 0)) (eqb (w .head .kind) 4 || eqb (w .head .top1) 0) (top (w .head .topped) a b) (kind (eqb (w .head .kind) 4) refl)
+is-headed w a b c = and-both (w .head .topped || (eqb (w .head .top0) 0 && eqb (w .head .top1) 0)) (proper (w .head .kind) (w .head .top0) (w .head .top1)) (top (w .head .topped) a b) c
   where
     top : (t : Bool) → (t ≡ false → w .head .top0 ≡ 0) → (t ≡ false → w .head .top1 ≡ 0) → (t || (eqb (w .head .top0) 0 && eqb (w .head .top1) 0)) ≡ true
     top true p q = refl
     top false p q = and-both (eqb (w .head .top0) 0) (eqb (w .head .top1) 0) (is-eqb _ _ (p refl)) (is-eqb _ _ (q refl))
-
-    kind : (t : Bool) → eqb (w .head .kind) 4 ≡ t → (t || eqb (w .head .top1) 0) ≡ true
-    kind true p = refl
-    kind false p = is-eqb _ _ (c (λ z. true≢false (sym (is-eqb _ _ z) ∙ p)))
 
 module _ (w : World) (h : Passed w) where
   p-linked : (c : ℕ) → c < chainCount → Linked (w .links .next) (firstOf w c) (chain w c)
@@ -482,12 +481,13 @@ module _ (w : World) (h : Passed w) where
     noTop0 = headed-top0 w (h .head);
     noTop1 = headed-top1 w (h .head);
     noWaiting = λ t. no-slots (chain w waitingChain) (λ s o. let a = p-place waitingChain (omega arith) s o .belongs in let b = home-topped w s t in let d = distanceAt-le w s in omega arith);
-    atMost = λ t c k s o. leb-is (keyAt w s) (topKey w) (sym (under-topped w s t) ∙ p-place c (omega arith) s o .below);
+    atMost = λ t c k s o. under-topped w s t (p-place c (omega arith) s o .below);
     placed = λ t c k s o. sym (home-topped w s t) ∙ p-place c (omega arith) s o .belongs;
     zeroWord0 = λ s o. p-blank s o .noWord0;
     zeroWord1 = λ s o. p-blank s o .noWord1;
     zeroValue = λ s o. p-blank s o .noValue;
-    oneWord = headed-kind w (h .head);
+    ofKind = λ c k s o. under-proper w s (p-place c k s o .below);
+    topOfKind = headed-kind w (h .head);
   }
 
 chains-split : (w : World) (s : ℕ) → tally s (chains w) ≡ tally s (busyChains w) + count s (chain w freeChain)
@@ -523,7 +523,7 @@ module _ (w : World) (h : Sound w) where
   s-home true e c k s o = go (decLt c waitingChain)
     where
       go : Dec (c < waitingChain) → (home w s ≡ c) × (under w s ≡ true)
-      go (yes p) = (home-topped w s e ∙ h .placed e c p s o, under-topped w s e ∙ is-leb (keyAt w s) (topKey w) (h .atMost e c p s o))
+      go (yes p) = (home-topped w s e ∙ h .placed e c p s o, is-under w s (h .ofKind c k s o) (within-topped w s e (h .atMost e c p s o)))
       go (no p) =
           let q : c ≡ waitingChain = omega arith in
           let o′ : On s [] = subst (On s) (ap (chain w) q ∙ h .noWaiting e) o in
@@ -534,7 +534,7 @@ module _ (w : World) (h : Sound w) where
       go (yes p) =
           let o′ : On s [] = subst (On s) (h .noBuckets e c p) o in
           absurd (omega arith)
-      go (no p) = (home-untopped w s e ∙ omega arith, under-untopped w s e)
+      go (no p) = (home-untopped w s e ∙ omega arith, is-under w s (h .ofKind c k s o) (within-untopped w s e))
 
   pub s-place : (c : ℕ) → c < freeChain → (s : ℕ) → On s (chain w c) → InPlace w c s
   s-place c k s o =
@@ -569,7 +569,7 @@ module _ (w : World) (h : Sound w) where
 
   sound-passed : Typed (w .links) → Passed w
   sound-passed t = record {
-    head = is-headed w (h .noTop0) (h .noTop1) (h .oneWord);
+    head = is-headed w (h .noTop0) (h .noTop1) (h .topOfKind);
     marks = sound-marks t;
     busy = λ d k. record {
       walked = record {
@@ -589,14 +589,16 @@ module _ (w : World) (h : Sound w) where
 pub fitting-fit : (w : World) → fitting w ≡ true → Fit w
 unfolding fitting
 fitting-fit w e =
-    let a : Bool = leb 1 (w .head .kind) && leb (w .head .kind) 4 && eqb (length (w .keys)) (words (w .head .kind) * size w) && eqb (length (w .values)) (size w) in
+    let a : Bool = kindFits (w .head .kind) && eqb (length (w .keys)) (words (w .head .kind) * size w) && eqb (length (w .values)) (size w) in
     let b : Bool = eqb (length (w .links .back)) (size w) in
-    let f = and4 (leb 1 (w .head .kind)) (leb (w .head .kind) 4) (eqb (length (w .keys)) (words (w .head .kind) * size w)) (eqb (length (w .values)) (size w)) (and-left a b (and-left (a && b) (leb (size w) limit) e)) in
+    let k : Bool = kindFits (w .head .kind) in
+    let x : Bool = eqb (length (w .keys)) (words (w .head .kind) * size w) in
+    let f = and-left a b (and-left (a && b) (leb (size w) limit) e) in
+    let g = and-left (k && x) (eqb (length (w .values)) (size w)) f in
     record {
-      kindLow = leb-is _ _ (f .0);
-      kindHigh = leb-is _ _ (f .1);
-      someKeys = eqb-is _ _ (f .2);
-      someValues = eqb-is _ _ (f .3);
+      kindOk = and-left k x g;
+      someKeys = eqb-is _ _ (and-right k x g);
+      someValues = eqb-is _ _ (and-right (k && x) (eqb (length (w .values)) (size w)) f);
       someBacks = eqb-is _ _ (and-right a b (and-left (a && b) (leb (size w) limit) e));
       small = leb-is _ _ (and-right (a && b) (leb (size w) limit) e);
     }
@@ -604,7 +606,7 @@ fitting-fit w e =
 pub fit-fitting : (w : World) → Fit w → fitting w ≡ true
 unfolding fitting
 fit-fitting w h =
-    and-both _ _ (and-both _ _ (and-both _ _ (and-both _ _ (and-both _ _ (is-leb _ _ (h .kindLow)) (is-leb _ _ (h .kindHigh))) (is-eqb _ _ (h .someKeys))) (is-eqb _ _ (h .someValues))) (is-eqb _ _ (h .someBacks))) (is-leb _ _ (h .small))
+    and-both _ _ (and-both _ _ (and-both _ _ (and-both _ _ (h .kindOk) (is-eqb _ _ (h .someKeys))) (is-eqb _ _ (h .someValues))) (is-eqb _ _ (h .someBacks))) (is-leb _ _ (h .small))
 
 -- ---- the codes
 

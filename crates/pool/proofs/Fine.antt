@@ -11,6 +11,7 @@ use borrow.Author.Tests.{eq-eqb, ne-eqb}
 use lib.Dec.{eqb}
 use lib.ListN.{length, getD, set, length-set, List·getD-eq-default}
 use Rattle.rule.specs.Width.{distance}
+use Rattle.keys.specs.declared.kind.Kind.{Kind}
 use Rattle.pool.specs.Chain.{hit, Linked, Backed, lastFrom, On}
 use Rattle.keys.specs.Ordered.{words, width}
 use Rattle.pool.specs.World.{freeChain, chainCount, Links, links, World, slotKey, size, firstOf, chains}
@@ -138,7 +139,7 @@ emptied-fine n s c f = record {
   marks = unmark-summary (s .first) (f .marks) c (omega (arith, f .firsts));
 }
 
-pub drained-fine : (n m kind : ℕ) (keys : List ℕ) (t at moves : ℕ) (s : Links) → FineAt n s → at ≤ n → FineAt n (drainFrom m kind keys t at moves s .to)
+pub drained-fine : (n m : ℕ) (kind : Kind) (keys : List ℕ) (t at moves : ℕ) (s : Links) → FineAt n s → at ≤ n → FineAt n (drainFrom m kind keys t at moves s .to)
 unfolding drainFrom
 drained-fine n zero kind keys t at moves s f h = f
 drained-fine n (suc m) kind keys t zero moves s f h = f
@@ -148,7 +149,7 @@ drained-fine n (suc m) kind keys t (suc i) moves s f h =
 
 -- ---- turns of the loops, as the code takes them
 
-module _ (kind : ℕ) (keys : List ℕ) (t at moves : ℕ) (s : Links) where
+module _ (kind : Kind) (keys : List ℕ) (t at moves : ℕ) (s : Links) where
   pub drain-on : (m k : ℕ) → m ≡ suc k → (at ≡ 0 → ⊥)
       → drainFrom m kind keys t at moves s ≡ drainFrom k kind keys t (getD (s .next) (at - 1) 0) (moves + 1) (appended s (distance (width kind) (slotKey kind keys (at - 1)) t) (at - 1))
   unfolding drainFrom
@@ -172,7 +173,7 @@ module _ (kind : ℕ) (keys : List ℕ) (t at moves : ℕ) (s : Links) where
   unfolding drainFrom
   drain-end m z = rw z
 
-module _ (kind : ℕ) (keys next : List ℕ) (at best : ℕ) where
+module _ (kind : Kind) (keys next : List ℕ) (at best : ℕ) where
   -- with the link b that the branch left
   pub greatest-turn : (n turns b : ℕ) → turns < n → (at ≡ 0 → ⊥) → b ≡ better kind keys at best
       → greatestFrom (n - turns) kind keys next at best ≡ greatestFrom (n - (turns + 1)) kind keys next (getD next (at - 1) 0) b
@@ -262,8 +263,8 @@ whole-fine {w} h = record {
 pub fit-room : {w : World} → Fit w → Room (w .head .kind) (size w) (w .keys)
 unfolding words
 fit-room {w} f = record {
-  wide = λ e. f .someKeys ∙ ap (λ (x : Bool). cond x 2 1 * size w) (eq-eqb (w .head .kind) 4 e);
-  narrow = λ n. f .someKeys ∙ ap (λ (x : Bool). cond x 2 1 * size w) (ne-eqb (w .head .kind) 4 n) ∙ one (size w);
+  wide = λ e. f .someKeys ∙ ap (λ (x : Bool). cond x 2 1 * size w) e;
+  narrow = λ n. f .someKeys ∙ ap (λ (x : Bool). cond x 2 1 * size w) n ∙ one (size w);
 }
   where
     one : (n : ℕ) → 1 * n ≡ n
@@ -275,7 +276,7 @@ whole-room h = fit-room (h .fit)
 -- ---- what premises give
 
 -- a slot below n has its words, and fine links are fine at their own length
-pub room-holds : {kind n : ℕ} {keys : List ℕ} (i : ℕ) → Room kind n keys → i < n → Holds kind keys i
+pub room-holds : {kind : Kind} {n : ℕ} {keys : List ℕ} (i : ℕ) → Room kind n keys → i < n → Holds kind keys i
 room-holds i r h = record { wide = λ e. omega (arith, r .wide e); narrow = λ q. omega (arith, r .narrow q) }
 
 pub fine-of : {n : ℕ} {s : Links} → FineAt n s → Fine s

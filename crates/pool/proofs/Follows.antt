@@ -1,7 +1,7 @@
 -- On a sound world each step of the core leaves a sound world, whose chains are those of the rule's call at slots. The first free
 -- slot is used, a freed slot goes to the front, and the links are those that the chains are laid out as.
 use mathlib.Core.Path.{_≡_, refl, sym, ap, _∙_, subst}
-use mathlib.Core.Logic.{_≢_, _↔_}
+use mathlib.Core.Logic.{_↔_}
 use mathlib.Core.Bool.{Bool, true, false}
 use mathlib.Core.List.{List, [], _∷_, _++_}
 use mathlib.Core.Option.{none}
@@ -13,6 +13,9 @@ use lib.Seq.{take-set-le}
 use Rattle.rule.specs.Lists.{join}
 use Rattle.rule.specs.Rule.{keep, bucketCount, Heap, empty, held, push as rulePush, constrain as ruleConstrain, pop as rulePop}
 use Rattle.keys.specs.Ordered.{width, words, ordered}
+use Rattle.keys.specs.declared.kind.Kind.{Kind}
+use Rattle.keys.specs.Ordered.{proper}
+use Rattle.keys.specs.Table.{kindFits}
 use Rattle.pool.specs.Chain.{total}
 use Rattle.pool.specs.World.{waitingChain, freeChain, chainCount, World, size, lastOf, chain, chains, keyAt, topKey, within}
 use Rattle.pool.specs.Sound.{Typed, Fit, Sound, Whole, limit}
@@ -85,10 +88,10 @@ module _ {w : World} (h : Whole w) where
 
 -- ---- fresh
 
-module _ (kind n : ℕ) (t : Bool) (a b : ℕ) (low : 1 ≤ kind) (high : kind ≤ 4) (small : n ≤ limit)
-    (z0 : t ≡ false → a ≡ 0) (z1 : t ≡ false → b ≡ 0) (z2 : kind ≢ 4 → b ≡ 0) where
+module _ (kind : Kind) (n : ℕ) (t : Bool) (a b : ℕ) (ok : kindFits kind ≡ true) (small : n ≤ limit)
+    (z0 : t ≡ false → a ≡ 0) (z1 : t ≡ false → b ≡ 0) (z2 : proper kind a b ≡ true) where
   f-good : Good (freshCore kind n t a b) (freshChains n)
-  f-good = fresh-good kind n t a b low high small z0 z1 z2
+  f-good = fresh-good kind n t a b ok small z0 z1 z2
 
   f-heap : (o : Bool) (x : ℕ) → heapIn o x (freshChains n) ≡ empty (topIn o x)
   unfolding heapIn empty freshChains bucketCount
@@ -115,7 +118,7 @@ unfolding entered
 entered-top w s a b v ls = refl
 
 -- slot s is the first free one, and the key is well-formed and not above the top
-module _ {w : World} (h : Whole w) (a b v : ℕ) (one : w .head .kind ≢ 4 → b ≡ 0) (low : within (w .head .topped) (ordered (w .head .kind) a b) (topKey w) ≡ true)
+module _ {w : World} (h : Whole w) (a b v : ℕ) (one : proper (w .head .kind) a b ≡ true) (low : within (w .head .topped) (ordered (w .head .kind) a b) (topKey w) ≡ true)
     (s : ℕ) (free : List ℕ) (f : chain w freeChain ≡ s ∷ free) where
   p-free : getD (chains w) freeChain [] ≡ s ∷ free
   p-free = at-chains w freeChain (omega arith) ∙ f

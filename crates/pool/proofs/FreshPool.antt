@@ -7,9 +7,12 @@ use Prim.Native.Nat.{ℕ, zero, suc, _+_, _*_, _≤_, _<_, zero-le}
 use native.Mathlib.Nat.{zero-add, add-zero}
 use native.Mathlib.Omega.{arith}
 use native.Mathlib.Decide.{ℕ-discrete}
-use lib.Dec.{eqb}
 use lib.ListN.{length, getD, set, length-set, replicate, length-replicate}
 use lib.Seq.{getD-set-same, getD-set-other}
+use Rattle.keys.specs.declared.kind.Kind.{Kind}
+use Rattle.keys.specs.Ordered.{isWide}
+use Rattle.keys.specs.Table.{kindFits}
+use Rattle.keys.specs.Ordered.{proper}
 use Rattle.pool.specs.Chain.{hit, count, tally, tab, Linked, Backed, lastFrom, On}
 use Rattle.pool.proofs.Chains.{hit-same, hit-other, hit-cases, tally-set, length-tab}
 use Rattle.keys.specs.Ordered.{words}
@@ -121,7 +124,7 @@ set-first v xs l = getD-set-same xs freeChain v 0 (omega arith)
 set-rest : (c v : ℕ) → c ≢ freeChain → getD (set (replicate chainCount 0) freeChain v) c 0 ≡ 0
 set-rest c v h = getD-set-other (replicate chainCount 0) freeChain c v 0 h ∙ zeros chainCount c
 
-module _ (kind n : ℕ) (t : Bool) (a b : ℕ) where
+module _ (kind : Kind) (n : ℕ) (t : Bool) (a b : ℕ) where
   f-first : firstOf (freshCore kind n t a b) freeChain ≡ freshFirst n
   unfolding freshCore
   f-first = set-first (freshFirst n) (replicate chainCount 0) (length-replicate {A = ℕ} chainCount 0)
@@ -152,17 +155,17 @@ module _ (kind n : ℕ) (t : Bool) (a b : ℕ) where
 
   f-word0 : (s : ℕ) → word0 (freshCore kind n t a b) s ≡ 0
   unfolding freshCore
-  f-word0 s = go (eqb kind 4) refl
+  f-word0 s = go (isWide kind) refl
     where
-      go : (x : Bool) → eqb kind 4 ≡ x → keyWord0 kind (replicate (words kind * n) 0) s ≡ 0
+      go : (x : Bool) → isWide kind ≡ x → keyWord0 kind (replicate (words kind * n) 0) s ≡ 0
       go true e = word0-wide kind (replicate (words kind * n) 0) s e ∙ zeros (words kind * n) (2 * s)
       go false e = word0-slim kind (replicate (words kind * n) 0) s e ∙ zeros (words kind * n) s
 
   f-word1 : (s : ℕ) → word1 (freshCore kind n t a b) s ≡ 0
   unfolding freshCore
-  f-word1 s = go (eqb kind 4) refl
+  f-word1 s = go (isWide kind) refl
     where
-      go : (x : Bool) → eqb kind 4 ≡ x → keyWord1 kind (replicate (words kind * n) 0) s ≡ 0
+      go : (x : Bool) → isWide kind ≡ x → keyWord1 kind (replicate (words kind * n) 0) s ≡ 0
       go true e = word1-wide kind (replicate (words kind * n) 0) s e ∙ zeros (words kind * n) (2 * s + 1)
       go false e = word1-slim kind (replicate (words kind * n) 0) s e
 
@@ -216,12 +219,11 @@ module _ (kind n : ℕ) (t : Bool) (a b : ℕ) where
   f-empty : {A : Type 0} (c : ℕ) → c < freeChain → (s : ℕ) → On s (getD (freshChains n) c []) → A
   f-empty c k s o = let p : On s [] = subst (On s) (other-at n c (omega arith)) o in absurd (omega arith)
 
-  module _ (low : 1 ≤ kind) (high : kind ≤ 4) (small : n ≤ limit) (z0 : t ≡ false → a ≡ 0) (z1 : t ≡ false → b ≡ 0) (z2 : kind ≢ 4 → b ≡ 0) where
+  module _ (ok : kindFits kind ≡ true) (small : n ≤ limit) (z0 : t ≡ false → a ≡ 0) (z1 : t ≡ false → b ≡ 0) (z2 : proper kind a b ≡ true) where
     f-fit : Fit (freshCore kind n t a b)
     unfolding freshCore
     f-fit = record {
-      kindLow = low;
-      kindHigh = high;
+      kindOk = ok;
       someKeys = length-replicate {A = ℕ} (words kind * n) 0 ∙ ap (λ (m : ℕ). words kind * m) (sym (length-fresh 0 n));
       someValues = length-replicate {A = ℕ} n 0 ∙ sym (length-fresh 0 n);
       someBacks = length-replicate {A = ℕ} n 0 ∙ sym (length-fresh 0 n);
@@ -239,7 +241,7 @@ module _ (kind n : ℕ) (t : Bool) (a b : ℕ) where
       counted = zero-add _ ∙ ap length (free-at n) ∙ length-tab (λ x. x) 0 n ∙ sym (length-fresh 0 n);
       noTop0 = z0;
       noTop1 = z1;
-      oneWord = z2;
+      topOfKind = z2;
     }
 
     pub fresh-good : Good (freshCore kind n t a b) (freshChains n)

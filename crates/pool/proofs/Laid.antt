@@ -9,14 +9,15 @@ use native.Mathlib.Omega.{arith}
 use native.Mathlib.Decide.{ℕ-discrete, decLt}
 use lib.ListN.{length, getD, set, length-set}
 use lib.Seq.{ext-getD, getD-set-same, getD-set-other}
+use Rattle.keys.specs.Ordered.{proper}
 use Rattle.pool.specs.Chain.{count, tally, total, tab, walk, Linked, Backed, lastFrom, On}
 use Rattle.pool.proofs.Chains.{tally-set, tally-ge2, total-set}
 use Rattle.pool.proofs.Chains.{length-tab, getD-tab, sum-tally, sum-ones, walk-linked, linked-agree, backed-agree, no-slots, count-join, length-join}
-use Rattle.pool.specs.World.{waitingChain, freeChain, chainCount, Links, World, size, firstOf, chain, chains, busyChains, word0, word1, keyAt, topKey, home, under}
+use Rattle.pool.specs.World.{waitingChain, freeChain, chainCount, Links, World, size, firstOf, chain, chains, busyChains, word0, word1, home, under}
 use Rattle.pool.specs.Marks.{summary}
 use Rattle.pool.specs.Sound.{Typed, Fit, Sound}
 use Rattle.pool.proofs.Marks.{Words, summary-words}
-use Rattle.pool.proofs.Exam.{s-place, home-topped, home-untopped, under-topped, leb-is, distanceAt-le, chains-total, sound-full, sound-once, sound-only, sound-counted, sound-marks, marks-bits, marks-rest}
+use Rattle.pool.proofs.Exam.{s-place, home-topped, home-untopped, under-proper, under-topped, distanceAt-le, chains-total, sound-full, sound-once, sound-only, sound-counted, sound-marks, marks-bits, marks-rest}
 
 -- arrays of the types' sizes, with busy words that are a summary
 pub summed-typed : {lk : Links} → length (lk .first) ≡ chainCount → length (lk .last) ≡ chainCount → lk .busy ≡ summary (lk .first) → Typed lk
@@ -157,7 +158,7 @@ pub record Filed (w : World) (ls : List (List ℕ)) : Type 0 where
   pub counted : w .head .len + length (getD ls freeChain []) ≡ size w
   pub noTop0 : w .head .topped ≡ false → w .head .top0 ≡ 0
   pub noTop1 : w .head .topped ≡ false → w .head .top1 ≡ 0
-  pub oneWord : w .head .kind ≢ 4 → w .head .top1 ≡ 0
+  pub topOfKind : proper (w .head .kind) (w .head .top0) (w .head .top1) ≡ true
 
 -- fit, and sound with these chains
 pub record Good (w : World) (ls : List (List ℕ)) : Type 0 where
@@ -202,7 +203,7 @@ module _ (w : World) (f : Fit w) (t : Typed (w .links)) (h : Sound w) where
     counted = ap (λ (l : List ℕ). w .head .len + length l) (at-chains w freeChain (omega arith)) ∙ ap (λ (n : ℕ). n + length (chain w freeChain)) (sound-counted w h) ∙ sym (chains-total w) ∙ sound-full w h;
     noTop0 = h .noTop0;
     noTop1 = h .noTop1;
-    oneWord = h .oneWord;
+    topOfKind = h .topOfKind;
   }
 
   pub sound-good : Good w (chains w)
@@ -244,10 +245,11 @@ module _ {w : World} {ls : List (List ℕ)} (g : Good w ls) where
     noTop0 = g .filed .noTop0;
     noTop1 = g .filed .noTop1;
     noWaiting = λ t. no-slots (chain w waitingChain) (λ s o. let a = g .filed .belongs waitingChain (omega arith) s (g-on waitingChain (omega arith) s o) in let b = home-topped w s t in let d = distanceAt-le w s in omega arith);
-    atMost = λ t c k s o. leb-is (keyAt w s) (topKey w) (sym (under-topped w s t) ∙ g .filed .below c (omega arith) s (g-on c (omega arith) s o));
+    atMost = λ t c k s o. under-topped w s t (g .filed .below c (omega arith) s (g-on c (omega arith) s o));
     placed = λ t c k s o. sym (home-topped w s t) ∙ g .filed .belongs c (omega arith) s (g-on c (omega arith) s o);
     zeroWord0 = λ s o. g .filed .zero0 s (g-on freeChain (omega arith) s o);
     zeroWord1 = λ s o. g .filed .zero1 s (g-on freeChain (omega arith) s o);
     zeroValue = λ s o. g .filed .zeroValue s (g-on freeChain (omega arith) s o);
-    oneWord = g .filed .oneWord;
+    ofKind = λ c k s o. under-proper w s (g .filed .below c k s (g-on c (omega arith) s o));
+    topOfKind = g .filed .topOfKind;
   }

@@ -25,7 +25,7 @@ use Rattle.pool.proofs.Chains.{hit-same, hit-cases, count-append, last-
 use Rattle.pool.proofs.Laid.{Good, laid-total}
 use Rattle.pool.proofs.OnChains.{not-none}
 use Rattle.pool.proofs.Lay.{lay-heap}
-use Rattle.pool.proofs.Push.{width-le}
+use Rattle.keys.proofs.Ordered.{width-le}
 use Rattle.pool.proofs.Take.{takenChains, taken, take-tail, take-good, t-free, t-size, t-laid}
 use Rattle.pool.proofs.Refine.{snoc-of, bucket0, take-rule, Constrained, constrain-rule, no-waiting, no-buckets, busy-le, busy-before, busy-at, taken-length, stay-constrained}
 

@@ -1,37 +1,31 @@
 -- A push: the first free slot goes to the tail of its chain.
-use mathlib.Core.Path.{_≡_, refl, sym, ap, ap₂, _∙_, subst}
+use mathlib.Core.Path.{_≡_, sym, ap, ap₂, _∙_, subst}
 use mathlib.Core.Logic.{_≢_, _⊎_, inl, inr}
 use mathlib.Core.Bool.{Bool, true, false}
 use mathlib.Core.List.{List, [], _∷_, _++_}
 use Prim.Native.Nat.{ℕ, suc, _+_, _*_, _≤_, _<_}
-use native.Mathlib.Nat.{le-refl}
 use native.Mathlib.Omega.{arith}
 use native.Mathlib.Decide.{ℕ-discrete}
-use lib.Dec.{eqb}
 use lib.ListN.{length, getD, set, length-set}
 use lib.Seq.{getD-set-same, getD-set-other}
 use Rattle.rule.specs.Width.{distance}
 use Rattle.rule.proofs.Width.{distance-le}
+use Rattle.keys.specs.declared.kind.Kind.{Kind}
+use Rattle.keys.specs.Ordered.{proper}
+use Rattle.keys.proofs.Ordered.{width-le, proper-second}
 use Rattle.pool.specs.Chain.{hit, count, On}
 use Rattle.pool.proofs.Chains.{hit-same, hit-cases, tally-ge, count-append}
 use Rattle.keys.specs.Ordered.{width, words, ordered}
 use Rattle.pool.specs.declared.state.Head.{Head}
-use Rattle.pool.specs.World.{freeChain, World, topOf, size, word0, word1, topKey, place, within, home, under}
+use Rattle.pool.specs.World.{freeChain, World, topOf, size, word0, word1, topKey, place, within, admits, home, under}
 use Rattle.pool.specs.Sound.{limit, Fit}
+use Rattle.pool.proofs.Exam.{and-both}
 use Rattle.pool.proofs.Laid.{Laid, Filed, Good, laid-most, laid-inside, laid-apart, touch-laid}
 use Rattle.pool.specs.Core.{unhooked, placeIn, entered}
 use Rattle.pool.proofs.OnChains.{append-touch, unhook-touch, not-hit}
 use Rattle.pool.proofs.Keys.{store-length, store-word0-other, store-word1-other, store-word0-same, store-word1-same}
 
-pub width-le : (kind : ℕ) → width kind ≤ 128
-unfolding width
-width-le kind = go (eqb kind 4) refl
-  where
-    go : (t : Bool) → eqb kind 4 ≡ t → width kind ≤ 128
-    go true e = rw (e, width) (le-refl 128)
-    go false e = rw (e, width) (omega arith)
-
-pub place-lt : (t : Bool) (kind a b : ℕ) → place t (distance (width kind) a b) < freeChain
+pub place-lt : (t : Bool) (kind : Kind) (a b : ℕ) → place t (distance (width kind) a b) < freeChain
 unfolding place
 place-lt true kind a b = let h = distance-le (width kind) a b in let k = width-le kind in omega arith
 place-lt false kind a b = omega arith
@@ -45,7 +39,7 @@ unfoldable pub pushedChains : List (List ℕ) → List ℕ → ℕ → ℕ → L
 pushedChains ls fs c s = set (set ls freeChain fs) c (getD ls c [] ++ s ∷ [])
 
 module _ {w : World} {ls : List (List ℕ)} (g : Good w ls) {s : ℕ} (fs : List ℕ) (e : getD ls freeChain [] ≡ s ∷ fs)
-    (a b v : ℕ) (one : w .head .kind ≢ 4 → b ≡ 0) (fits : within (w .head .topped) (ordered (w .head .kind) a b) (topKey w) ≡ true) where
+    (a b v : ℕ) (one : proper (w .head .kind) a b ≡ true) (fits : within (w .head .topped) (ordered (w .head .kind) a b) (topKey w) ≡ true) where
   e-lt : placeIn (w .head) a b < freeChain
   e-lt = placeIn-lt (w .head) a b
 
@@ -74,8 +68,7 @@ module _ {w : World} {ls : List (List ℕ)} (g : Good w ls) {s : ℕ} (fs : List
   e-fit : Fit (entered w s a b v)
   unfolding entered
   e-fit = record {
-    kindLow = g .fit .kindLow;
-    kindHigh = g .fit .kindHigh;
+    kindOk = g .fit .kindOk;
     someKeys = store-length (w .head .kind) (w .keys) s a b ∙ g .fit .someKeys ∙ ap (λ (n : ℕ). words (w .head .kind) * n) (sym e-size);
     someValues = length-set (w .values) s v ∙ g .fit .someValues ∙ sym e-size;
     someBacks = e-back ∙ g .fit .someBacks ∙ sym e-size;
@@ -101,7 +94,7 @@ module _ {w : World} {ls : List (List ℕ)} (g : Good w ls) {s : ℕ} (fs : List
 
   pub enter-word1 : word1 (entered w s a b v) s ≡ b
   unfolding entered
-  enter-word1 = store-word1-same (w .head .kind) (w .keys) s a b (size w) (g .fit .someKeys) e-inside one
+  enter-word1 = store-word1-same (w .head .kind) (w .keys) s a b (size w) (g .fit .someKeys) e-inside (proper-second (w .head .kind) a b one)
 
   e-home : (x : ℕ) → x ≢ s → home (entered w s a b v) x ≡ home w x
   unfolding entered
@@ -109,7 +102,7 @@ module _ {w : World} {ls : List (List ℕ)} (g : Good w ls) {s : ℕ} (fs : List
 
   e-under : (x : ℕ) → x ≢ s → under (entered w s a b v) x ≡ under w x
   unfolding entered
-  e-under x n = ap₂ (λ (p q : ℕ). within (w .head .topped) (ordered (w .head .kind) p q) (topKey w)) (e-word0 x n) (e-word1 x n)
+  e-under x n = ap₂ (λ (p q : ℕ). admits (w .head) p q) (e-word0 x n) (e-word1 x n)
 
   e-home-new : home (entered w s a b v) s ≡ placeIn (w .head) a b
   unfolding entered placeIn
@@ -117,7 +110,7 @@ module _ {w : World} {ls : List (List ℕ)} (g : Good w ls) {s : ℕ} (fs : List
 
   e-under-new : under (entered w s a b v) s ≡ true
   unfolding entered
-  e-under-new = ap₂ (λ (p q : ℕ). within (w .head .topped) (ordered (w .head .kind) p q) (topKey w)) enter-word0 enter-word1 ∙ fits
+  e-under-new = ap₂ (λ (p q : ℕ). admits (w .head) p q) enter-word0 enter-word1 ∙ and-both (proper (w .head .kind) a b) (within (w .head .topped) (ordered (w .head .kind) a b) (topKey w)) one fits
 
   -- who stands on a chain that is not free
   e-who : (d : ℕ) → d < freeChain → (x : ℕ) → On x (getD (pushedChains ls fs (placeIn (w .head) a b) s) d []) → ((x ≡ s) × (d ≡ placeIn (w .head) a b)) ⊎ ((x ≢ s) × On x (getD ls d []))
@@ -194,7 +187,7 @@ module _ {w : World} {ls : List (List ℕ)} (g : Good w ls) {s : ℕ} (fs : List
     counted = e-counted;
     noTop0 = g .filed .noTop0;
     noTop1 = g .filed .noTop1;
-    oneWord = g .filed .oneWord;
+    topOfKind = g .filed .topOfKind;
   }
 
   pub enter-good : Good (entered w s a b v) (pushedChains ls fs (placeIn (w .head) a b) s)

@@ -26,7 +26,8 @@ use Rattle.pool.proofs.Chains.{no-slots}
 use Rattle.pool.proofs.Exam.{distanceAt-le, home-topped, home-untopped}
 use Rattle.pool.proofs.Laid.{Good}
 use Rattle.pool.proofs.OnChains.{less-one, not-none}
-use Rattle.pool.proofs.Push.{width-le, pushedChains}
+use Rattle.keys.proofs.Ordered.{width-le}
+use Rattle.pool.proofs.Push.{pushedChains}
 use Rattle.pool.proofs.Take.{takenChains}
 use Rattle.pool.proofs.Drain.{leader, drainedTo, drainedChains, drain-good, drain-greatest, drain-moves, d-size, d-free, spread-past, spread-take, leading-is}
 

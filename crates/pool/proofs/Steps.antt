@@ -8,6 +8,7 @@ use native.Mathlib.Decide.{ℕ-discrete}
 use borrow.Author.Tests.{eq-eqb, ne-eqb}
 use lib.Dec.{ltb, eqb}
 use lib.ListN.{length, getD}
+use Rattle.keys.specs.declared.kind.Kind.{Kind}
 use Rattle.pool.specs.declared.state.Head.{Head}
 use Rattle.pool.specs.World.{waitingChain, Links, slotKey}
 use Rattle.pool.specs.Fine.{Under, FineAt, Room, Ready}
@@ -20,7 +21,7 @@ use Rattle.pool.proofs.Fine.{emptied-fine, drained-fine, cut-fine, fine
 abbrev pub Slot : ℕ → ℕ → Type 0
 Slot n l = (0 < l) × (l ≤ n)
 
-module _ (kind : ℕ) (keys next : List ℕ) (n : ℕ) (u : Under n next) where
+module _ (kind : Kind) (keys next : List ℕ) (n : ℕ) (u : Under n next) where
   better-slot : (a b : ℕ) → Slot n a → Slot n b → Slot n (better kind keys a b)
   unfolding better
   better-slot a b p q = go (ltb (slotKey kind keys (b - 1)) (slotKey kind keys (a - 1)))
@@ -68,7 +69,7 @@ pub record Kept (n : ℕ) (h : Head) (m : Moved) : Type 0 where
   pub kind : m .head .kind ≡ h .kind
   pub len : m .head .len ≡ h .len
 
-chain-fine : (n kind : ℕ) (keys : List ℕ) (t c : ℕ) (k : Links) → FineAt n k → FineAt n (drainChain kind keys t c k .to)
+chain-fine : (n : ℕ) (kind : Kind) (keys : List ℕ) (t c : ℕ) (k : Links) → FineAt n k → FineAt n (drainChain kind keys t c k .to)
 unfolding drainChain
 chain-fine n kind keys t c k f = drained-fine n (length (k .next)) kind keys t (getD (k .first) c 0) 0 (emptied k c) (emptied-fine n k c f) (f .first .at c)
 
@@ -91,13 +92,13 @@ module _ (n : ℕ) (h : Head) (k : Links) (keys : List ℕ) (f : FineAt n k) whe
   readied-kept false = record { fine = f; kind = refl; len = refl }
 
 -- the room does for as many slots
-pub room-as : {kind n m : ℕ} {keys : List ℕ} → m ≡ n → Room kind n keys → Room kind m keys
+pub room-as : {kind : Kind} {n m : ℕ} {keys : List ℕ} → m ≡ n → Room kind n keys → Room kind m keys
 room-as e r = rw e r
 
 kept-ready : {h : Head} {k : Links} {keys values : List ℕ} {m : Moved} → Ready h k keys values → Kept (length (k .next)) h m → Ready (m .head) (m .to) keys values
 kept-ready {keys = keys} {m = m} r p = record {
   fine = fine-of (p .fine);
-  room = subst (λ (x : ℕ). Room x (length (m .to .next)) keys) (sym (p .kind)) (room-as (p .fine .nexts) (r .room));
+  room = subst (λ (x : Kind). Room x (length (m .to .next)) keys) (sym (p .kind)) (room-as (p .fine .nexts) (r .room));
   sized = omega (arith, p .fine .nexts);
   counted = omega (arith, p .fine .nexts);
   small = omega (arith, p .fine .nexts);

@@ -12,7 +12,7 @@ use Rattle.rule.specs.Width.{distance}
 use Rattle.pool.specs.Chain.{hit, count, On}
 use Rattle.pool.proofs.Chains.{hit-same, hit-cases, tally-ge, count-append, total-ge2}
 use Rattle.keys.specs.Ordered.{width, words, ordered}
-use Rattle.pool.specs.World.{freeChain, Links, World, resized, storeKey, keyWord0, keyWord1, size, word0, word1, topKey, place, within, home, under}
+use Rattle.pool.specs.World.{freeChain, Links, World, resized, storeKey, keyWord0, keyWord1, size, word0, word1, topKey, place, admits, home, under}
 use Rattle.pool.specs.Sound.{limit, Fit}
 use Rattle.pool.proofs.Laid.{Laid, Filed, Good, laid-most, laid-inside, laid-apart, touch-laid, laid-total}
 use Rattle.pool.specs.Core.{cut, freed, Moved, tailUnhooked, released, popped, popTail}
@@ -71,8 +71,7 @@ module _ {w : World} {ls : List (List ℕ)} (g : Good w ls) (s : ℕ) (l : List 
   t-fit : Fit (taken w s)
   unfolding taken
   t-fit = record {
-    kindLow = g .fit .kindLow;
-    kindHigh = g .fit .kindHigh;
+    kindOk = g .fit .kindOk;
     someKeys = store-length (w .head .kind) (w .keys) s 0 0 ∙ g .fit .someKeys ∙ ap (λ (n : ℕ). words (w .head .kind) * n) (sym t-size);
     someValues = length-set (w .values) s 0 ∙ g .fit .someValues ∙ sym t-size;
     someBacks = t-back ∙ g .fit .someBacks ∙ sym t-size;
@@ -110,7 +109,7 @@ module _ {w : World} {ls : List (List ℕ)} (g : Good w ls) (s : ℕ) (l : List 
 
   t-under : (x : ℕ) → x ≢ s → under (taken w s) x ≡ under w x
   unfolding taken
-  t-under x n = ap₂ (λ (p q : ℕ). within (w .head .topped) (ordered (w .head .kind) p q) (topKey w)) (take-word0 x n) (take-word1 x n)
+  t-under x n = ap₂ (λ (p q : ℕ). admits (w .head) p q) (take-word0 x n) (take-word1 x n)
 
   t-who : (d : ℕ) → d < freeChain → (x : ℕ) → On x (getD (takenChains ls l s) d []) → (x ≢ s) × On x (getD ls d [])
   unfolding takenChains
@@ -171,7 +170,7 @@ module _ {w : World} {ls : List (List ℕ)} (g : Good w ls) (s : ℕ) (l : List 
     counted = t-counted;
     noTop0 = g .filed .noTop0;
     noTop1 = g .filed .noTop1;
-    oneWord = g .filed .oneWord;
+    topOfKind = g .filed .topOfKind;
   }
 
   pub take-good : Good (taken w s) (takenChains ls l s)

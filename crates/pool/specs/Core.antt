@@ -7,6 +7,7 @@ use lib.Dec.{ltb, eqb}
 use lib.ListN.{length, getD, set, replicate}
 use Rattle.rule.specs.Width.{distance}
 use Rattle.keys.specs.Ordered.{width, words, ordered}
+use Rattle.keys.specs.declared.kind.Kind.{Kind}
 use Rattle.pool.specs.declared.state.Head.{Head}
 use Rattle.pool.specs.declared.state.State.{State}
 use Rattle.pool.specs.Marks.{marked, unmarked}
@@ -84,11 +85,11 @@ emptied k c = record { first = set (k .first) c 0; last = set (k .last) c 0; nex
 -- ---- along a chain
 
 -- of the links a and b, a if its slot's key is greater
-unfoldable pub better : ℕ → List ℕ → ℕ → ℕ → ℕ
+unfoldable pub better : Kind → List ℕ → ℕ → ℕ → ℕ
 better kind keys a b = cond (ltb (slotKey kind keys (b - 1)) (slotKey kind keys (a - 1))) a b
 
 -- the link of the first slot with the greatest key: `best`, or one in at most m turns from the link `at` on
-unfoldable pub greatestFrom : ℕ → ℕ → List ℕ → List ℕ → ℕ → ℕ → ℕ
+unfoldable pub greatestFrom : ℕ → Kind → List ℕ → List ℕ → ℕ → ℕ → ℕ
 unfolding better
 greatestFrom zero kind keys next at best = best
 greatestFrom (suc m) kind keys next at best =
@@ -96,7 +97,7 @@ greatestFrom (suc m) kind keys next at best =
     cond (eqb at 0) best r
 
 -- of the chain from the link a on
-unfoldable pub greatestOf : ℕ → List ℕ → List ℕ → ℕ → ℕ
+unfoldable pub greatestOf : Kind → List ℕ → List ℕ → ℕ → ℕ
 unfolding greatestFrom
 greatestOf kind keys next a = greatestFrom (length next) kind keys next (getD next (a - 1) 0) a
 
@@ -108,14 +109,14 @@ abbrev pub drained : Links → ℕ → Drained
 drained k m = record { to = k; moves = m }
 
 -- each slot from the link `at` on goes to the tail of its bucket under the top t, in at most m turns; `moves` were moved before
-unfoldable pub drainFrom : ℕ → ℕ → List ℕ → ℕ → ℕ → ℕ → Links → Drained
+unfoldable pub drainFrom : ℕ → Kind → List ℕ → ℕ → ℕ → ℕ → Links → Drained
 unfolding appended
 drainFrom zero kind keys t at moves k = drained k moves
 drainFrom (suc m) kind keys t zero moves k = drained k moves
 drainFrom (suc m) kind keys t (suc i) moves k =
     drainFrom m kind keys t (getD (k .next) i 0) (moves + 1) (appended k (distance (width kind) (slotKey kind keys i) t) i)
 
-unfoldable pub drainChain : ℕ → List ℕ → ℕ → ℕ → Links → Drained
+unfoldable pub drainChain : Kind → List ℕ → ℕ → ℕ → Links → Drained
 unfolding drainFrom emptied
 drainChain kind keys t c k = drainFrom (length (k .next)) kind keys t (getD (k .first) c 0) 0 (emptied k c)
 
@@ -183,7 +184,7 @@ pub record Pool : Type 0 where
 abbrev pub cleared : Links → List ℕ → List ℕ → Pool
 cleared k keys values = record { to = k; keys = keys; values = values }
 
-unfoldable pub released : ℕ → Links → List ℕ → List ℕ → ℕ → Pool
+unfoldable pub released : Kind → Links → List ℕ → List ℕ → ℕ → Pool
 unfolding freed
 released kind k keys values i = record {
   to = freed (eqb (getD (k .first) freeChain 0) 0) k i (i + 1);
@@ -239,7 +240,7 @@ unfoldable pub freshLinks : ℕ → Links
 unfolding freshNext freshFirst
 freshLinks n = links (set (replicate chainCount 0) freeChain (freshFirst n)) (set (replicate chainCount 0) freeChain n) (freshNext 0 n) (replicate n 0) (replicate 3 0)
 
-unfoldable pub freshCore : ℕ → ℕ → Bool → ℕ → ℕ → World
+unfoldable pub freshCore : Kind → ℕ → Bool → ℕ → ℕ → World
 unfolding freshLinks
 freshCore kind n topped a b = record {
   head = record { kind = kind; len = 0; topped = topped; top0 = a; top1 = b };
@@ -249,7 +250,7 @@ freshCore kind n topped a b = record {
 }
 
 -- the state of a fresh heap: 131 equal chains, and then the free one set
-unfoldable pub freshState : ℕ → ℕ → Bool → ℕ → ℕ → State
+unfoldable pub freshState : Kind → ℕ → Bool → ℕ → ℕ → State
 unfolding freshFirst chainSet
 freshState kind n topped a b = chainSet (record {
   head = record { kind = kind; len = 0; topped = topped; top0 = a; top1 = b };

@@ -6,16 +6,19 @@ use lib.Dec.{leb, ltb, eqb}
 use lib.ListN.{length, getD}
 use Rattle.rule.specs.Width.{distance}
 use Rattle.keys.specs.Ordered.{width, words}
+use Rattle.keys.specs.declared.kind.Kind.{Kind}
+use Rattle.keys.specs.Ordered.{proper}
+use Rattle.keys.specs.Table.{kindFits}
 use Rattle.pool.specs.declared.state.Head.{Head}
 use Rattle.pool.specs.Marks.{summary, sameWords}
-use Rattle.pool.specs.World.{freeChain, Links, World, size, keyWord0, keyWord1, slotKey, topOf, place, within}
+use Rattle.pool.specs.World.{freeChain, Links, World, size, keyWord0, keyWord1, slotKey, topOf, place, admits}
 use Rattle.pool.specs.Sound.{limit}
 
 -- ---- code 1
 
 -- kind, and how long keys, values, next and back links are
-unfoldable pub fits : ℕ → ℕ → ℕ → ℕ → ℕ → Bool
-fits kind keys values next back = leb 1 kind && leb kind 4 && eqb keys (words kind * next) && eqb values next && eqb back next && leb next limit
+unfoldable pub fits : Kind → ℕ → ℕ → ℕ → ℕ → Bool
+fits kind keys values next back = kindFits kind && eqb keys (words kind * next) && eqb values next && eqb back next && leb next limit
 
 unfoldable pub fitting : World → Bool
 unfolding fits
@@ -23,18 +26,18 @@ fitting w = fits (w .head .kind) (length (w .keys)) (length (w .values)) (size w
 
 -- ---- code 2
 
--- top words that are not in use are 0
+-- top words that are not in use are 0, and the top is a key of the kind
 unfoldable pub headed : Head → Bool
-headed h = (h .topped || (eqb (h .top0) 0 && eqb (h .top1) 0)) && (eqb (h .kind) 4 || eqb (h .top1) 0)
+headed h = (h .topped || (eqb (h .top0) 0 && eqb (h .top1) 0)) && proper (h .kind) (h .top0) (h .top1)
 
 -- slot s may stand on chain c after the link p: its back link, its key against the top, and the chain where it belongs
 unfoldable pub standsAt : Head → List ℕ → List ℕ → ℕ → ℕ → ℕ → Bool
 standsAt h keys back c p s =
-    eqb (getD back s 0) p && within (h .topped) (slotKey (h .kind) keys s) (topOf h)
+    eqb (getD back s 0) p && admits h (keyWord0 (h .kind) keys s) (keyWord1 (h .kind) keys s)
     && eqb (place (h .topped) (distance (width (h .kind)) (slotKey (h .kind) keys s) (topOf h))) c
 
 -- slot s may stand on the free chain: its back link, key and value are 0
-unfoldable pub emptyAt : ℕ → List ℕ → List ℕ → List ℕ → ℕ → Bool
+unfoldable pub emptyAt : Kind → List ℕ → List ℕ → List ℕ → ℕ → Bool
 emptyAt kind keys values back s = eqb (getD back s 0) 0 && eqb (keyWord0 kind keys s) 0 && eqb (keyWord1 kind keys s) 0 && eqb (getD values s 0) 0
 
 -- one step of a walk comes to slot s after the link p: on chain c, and on the free chain
@@ -42,7 +45,7 @@ unfoldable pub okBusy : Head → Links → List ℕ → ℕ → ℕ → ℕ → 
 unfolding standsAt
 okBusy h k keys c p s = ltb s (length (k .next)) && standsAt h keys (k .back) c p s
 
-unfoldable pub okFree : ℕ → Links → List ℕ → List ℕ → ℕ → ℕ → Bool
+unfoldable pub okFree : Kind → Links → List ℕ → List ℕ → ℕ → ℕ → Bool
 unfolding emptyAt
 okFree kind k keys values p s = ltb s (length (k .next)) && emptyAt kind keys values (k .back) s
 

@@ -1,8 +1,11 @@
 -- The light facts that every function of the core may assume of the links. They say nothing of chains.
 use mathlib.Core.Path.{_≡_}
+use mathlib.Core.Bool.{true, false}
 use mathlib.Core.List.{List}
 use Prim.Native.Nat.{ℕ, _+_, _*_, _^_, _≤_, _<_}
 use lib.ListN.{length, getD}
+use Rattle.keys.specs.declared.kind.Kind.{Kind}
+use Rattle.keys.specs.Ordered.{isWide}
 use Rattle.pool.specs.declared.state.Head.{Head}
 use Rattle.pool.specs.Sound.{limit}
 use Rattle.pool.specs.Marks.{summary}
@@ -28,15 +31,15 @@ pub record FineAt (n : ℕ) (k : Links) : Type 0 where
 abbrev pub Fine : Links → Type 0
 Fine k = FineAt (length (k .next)) k
 
--- a key takes two words where the kind is 4, and one elsewhere
-pub record Room (kind n : ℕ) (keys : List ℕ) : Type 0 where
-  pub wide : kind ≡ 4 → length keys ≡ 2 * n
-  pub narrow : (kind ≡ 4 → ⊥) → length keys ≡ n
+-- a key takes two words where the kind is 4 or 5, and one elsewhere
+pub record Room (kind : Kind) (n : ℕ) (keys : List ℕ) : Type 0 where
+  pub wide : isWide kind ≡ true → length keys ≡ 2 * n
+  pub narrow : isWide kind ≡ false → length keys ≡ n
 
 -- the key words of slot i are there
-pub record Holds (kind : ℕ) (keys : List ℕ) (i : ℕ) : Type 0 where
-  pub wide : kind ≡ 4 → 2 * i + 1 < length keys
-  pub narrow : (kind ≡ 4 → ⊥) → i < length keys
+pub record Holds (kind : Kind) (keys : List ℕ) (i : ℕ) : Type 0 where
+  pub wide : isWide kind ≡ true → 2 * i + 1 < length keys
+  pub narrow : isWide kind ≡ false → i < length keys
 
 -- what the calls on an examined pool may assume: bounds again, and nothing of chains
 pub record Ready (h : Head) (k : Links) (keys values : List ℕ) : Type 0 where

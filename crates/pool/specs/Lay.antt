@@ -7,6 +7,7 @@ use lib.Dec.{eqb, ltb}
 use lib.ListN.{getD, take, replicate}
 use Rattle.rule.specs.Rule.{Heap, empty}
 use Rattle.keys.specs.Ordered.{words}
+use Rattle.keys.specs.declared.kind.Kind.{Kind}
 use Rattle.pool.specs.Chain.{tab, lastFrom}
 use Rattle.pool.specs.Marks.{summary}
 use Rattle.pool.specs.declared.state.Head.{Head}
@@ -74,7 +75,7 @@ lay ls n = record {
 -- ---- the fresh world, and the head after a constrain
 
 -- "Fresh: no top, free chain 0, 1, 2 and so on, keys and values zero. Fresh at a key: the same with that top."
-unfoldable pub fresh : ℕ → ℕ → Bool → ℕ → ℕ → World
+unfoldable pub fresh : Kind → ℕ → Bool → ℕ → ℕ → World
 fresh kind n topped a b = record {
   head = record { kind = kind; len = 0; topped = topped; top0 = a; top1 = b };
   links = lay (withFree (empty none) (tab (λ s. s) 0 n)) n;

@@ -8,7 +8,8 @@ use lib.ListN.{length, getD}
 use Rattle.rule.specs.Lists.{join}
 use Rattle.pool.specs.Marks.{bitAt}
 use Rattle.pool.specs.Chain.{count, Linked, Backed, lastFrom, On}
-use Rattle.keys.specs.Ordered.{words}
+use Rattle.keys.specs.Ordered.{words, proper}
+use Rattle.keys.specs.Table.{kindFits}
 use Rattle.pool.specs.World.{waitingChain, freeChain, chainCount, Links, World, size, firstOf, lastOf, chain, chains, busyChains, word0, word1, keyAt, topKey, distanceAt}
 
 -- ---- what the types of the code give
@@ -19,14 +20,13 @@ pub record Typed (k : Links) : Type 0 where
   pub busies : length (k .busy) ≡ 3
   pub busyFits : (j : ℕ) → getD (k .busy) j 0 < 2 ^ 64
 
--- ---- code 1: "kind not 1 to 4, slice lengths unfit, n above 4,096"
+-- ---- code 1: "kind not 1 to 5, a table that breaks its limits or isn't zero in another kind, slice lengths unfit, n above 4,096"
 
 unfoldable pub limit : ℕ
 limit = 4096
 
 pub record Fit (w : World) : Type 0 where
-  pub kindLow : 1 ≤ w .head .kind
-  pub kindHigh : w .head .kind ≤ 4
+  pub kindOk : kindFits (w .head .kind) ≡ true
   pub someKeys : length (w .keys) ≡ words (w .head .kind) * size w
   pub someValues : length (w .values) ≡ size w
   pub someBacks : length (w .links .back) ≡ size w
@@ -64,8 +64,9 @@ pub record Sound (w : World) : Type 0 where
   pub zeroWord0 : (s : ℕ) → On s (chain w freeChain) → word0 w s ≡ 0
   pub zeroWord1 : (s : ℕ) → On s (chain w freeChain) → word1 w s ≡ 0
   pub zeroValue : (s : ℕ) → On s (chain w freeChain) → getD (w .values) s 0 ≡ 0
-  -- the second top word is 0 in kinds 1 to 3
-  pub oneWord : w .head .kind ≢ 4 → w .head .top1 ≡ 0
+  -- every key is one of the kind, and so is the top: no bit above a mixed key's total, one word in kinds 1 to 3
+  pub ofKind : (c : ℕ) → c < freeChain → (s : ℕ) → On s (chain w c) → proper (w .head .kind) (word0 w s) (word1 w s) ≡ true
+  pub topOfKind : proper (w .head .kind) (w .head .top0) (w .head .top1) ≡ true
 
 -- in arrays of the types' sizes, fit and sound: what the examination passes
 pub record Whole (w : World) : Type 0 where

@@ -1,11 +1,14 @@
 -- Document 01's pool and state as one record of numbers and lists, the keys that its slots hold, and the chains that its links make.
-use mathlib.Core.Bool.{Bool, true, false, cond}
+use mathlib.Core.Bool.{Bool, true, false, cond, _&&_}
 use mathlib.Core.List.{List}
 use Prim.Native.Nat.{ℕ, _+_, _*_}
-use lib.Dec.{leb, eqb}
+use lib.Dec.{leb}
 use lib.ListN.{length, getD, set, replicate}
 use Rattle.rule.specs.Width.{distance}
-use Rattle.keys.specs.Ordered.{width, ordered}
+use Rattle.keys.specs.Ordered.{width, ordered, proper}
+use Rattle.keys.specs.declared.kind.Kind.{Kind}
+use Rattle.keys.specs.Table.{bare}
+use Rattle.keys.specs.Ordered.{isWide}
 use Rattle.pool.specs.declared.state.Head.{Head}
 use Rattle.pool.specs.declared.state.State.{State}
 use Rattle.pool.specs.Chain.{tab, walk}
@@ -59,7 +62,7 @@ unfoldable pub chainSet : State → ℕ → ℕ → ℕ → State
 chainSet s c f l = record { head = s .head; first = set (s .first) c f; last = set (s .last) c l; busy = s .busy }
 
 -- the state that is all zero but for the kind, over a pool; "A refused fresh returns a state all zero (kind 0)."
-unfoldable pub blank : ℕ → List ℕ → List ℕ → List ℕ → List ℕ → World
+unfoldable pub blank : Kind → List ℕ → List ℕ → List ℕ → List ℕ → World
 blank kind keys values next back = record {
   head = record { kind = kind; len = 0; topped = false; top0 = 0; top1 = 0 };
   links = record { first = replicate chainCount 0; last = replicate chainCount 0; next = next; back = back; busy = replicate 3 0 };
@@ -68,20 +71,20 @@ blank kind keys values next back = record {
 }
 
 unfoldable pub noState : State
-noState = record { head = record { kind = 0; len = 0; topped = false; top0 = 0; top1 = 0 }; first = replicate chainCount 0; last = replicate chainCount 0; busy = replicate 3 0 }
+noState = record { head = record { kind = bare 0; len = 0; topped = false; top0 = 0; top1 = 0 }; first = replicate chainCount 0; last = replicate chainCount 0; busy = replicate 3 0 }
 
 -- ---- keys
 
 -- the key words in a slot
-unfoldable pub keyWord0 : ℕ → List ℕ → ℕ → ℕ
-keyWord0 kind keys s = cond (eqb kind 4) (getD keys (2 * s) 0) (getD keys s 0)
+unfoldable pub keyWord0 : Kind → List ℕ → ℕ → ℕ
+keyWord0 kind keys s = cond (isWide kind) (getD keys (2 * s) 0) (getD keys s 0)
 
-unfoldable pub keyWord1 : ℕ → List ℕ → ℕ → ℕ
-keyWord1 kind keys s = cond (eqb kind 4) (getD keys (2 * s + 1) 0) 0
+unfoldable pub keyWord1 : Kind → List ℕ → ℕ → ℕ
+keyWord1 kind keys s = cond (isWide kind) (getD keys (2 * s + 1) 0) 0
 
 -- the key words of a slot are stored
-unfoldable pub storeKey : ℕ → List ℕ → ℕ → ℕ → ℕ → List ℕ
-storeKey kind keys s a b = cond (eqb kind 4) (set (set keys (2 * s) a) (2 * s + 1) b) (set keys s a)
+unfoldable pub storeKey : Kind → List ℕ → ℕ → ℕ → ℕ → List ℕ
+storeKey kind keys s a b = cond (isWide kind) (set (set keys (2 * s) a) (2 * s + 1) b) (set keys s a)
 
 abbrev pub word0 : World → ℕ → ℕ
 word0 w s = keyWord0 (w .head .kind) (w .keys) s
@@ -90,7 +93,7 @@ abbrev pub word1 : World → ℕ → ℕ
 word1 w s = keyWord1 (w .head .kind) (w .keys) s
 
 -- the key in a slot, and the top, in ordered form
-abbrev pub slotKey : ℕ → List ℕ → ℕ → ℕ
+abbrev pub slotKey : Kind → List ℕ → ℕ → ℕ
 slotKey kind keys s = ordered kind (keyWord0 kind keys s) (keyWord1 kind keys s)
 
 abbrev pub keyAt : World → ℕ → ℕ
@@ -145,5 +148,9 @@ unfoldable pub within : Bool → ℕ → ℕ → Bool
 within true k t = leb k t
 within false k t = true
 
+-- a key that may stand under a head: "a key with a bit set above its total is .. in a pool or top code 2"
+abbrev pub admits : Head → ℕ → ℕ → Bool
+admits h a b = proper (h .kind) a b && within (h .topped) (ordered (h .kind) a b) (topOf h)
+
 abbrev pub under : World → ℕ → Bool
-under w s = within (w .head .topped) (keyAt w s) (topKey w)
+under w s = admits (w .head) (word0 w s) (word1 w s)

@@ -1,9 +1,10 @@
 // Along a chain: the greatest key, and the spread of a chain.
+use crate::against::bare0;
 use crate::against::slot_above_slot;
 use crate::against::slot_distance;
 use crate::chain::append;
-use crate::keywords::key0;
 use crate::summary::unmark;
+use keys::Kind;
 ghost use mathlib.Core.Path.{_≡_};
 ghost use Prim.Native.Nat.{_<_, _≤_};
 ghost use lib.ListN.{length};
@@ -13,16 +14,17 @@ ghost use Rattle.pool.specs.Fine.{Under, Fine, Room};
 ghost use Rattle.pool.specs.Core.{greatestOf, drained, drainChain};
 
 // The link of the slot with the greatest key, the first of them, on the chain from the link `start`.
-pub fn greatest(kind: u32, keys: &[u64], next: &[u32], start: u32) -> u32
+pub fn greatest(kind: Kind, keys: &[u64], next: &[u32], start: u32) -> u32
     requires { ⌜ Room kind (length (now next)) (now keys) ⌝ }
     requires { ⌜ Under (length (now next)) (now next) ⌝ }
     requires { ⌜ (0 < start) × (start ≤ length (now next)) ⌝ }
     ensures { λ r. ⌜ r ≡ greatestOf kind (now (keys .entry)) (now (next .entry)) start ⌝ }
 {
+    let masks = keys::kind_masks(kind);
     let n = next.len();
     let s = start as usize - 1;
     let mut best = start;
-    let mut best0 = key0(kind, keys, s);
+    let mut best0 = bare0(kind, keys, s);
     let mut at = next[s];
     let mut turns = 0;
     while turns < n {
@@ -30,9 +32,9 @@ pub fn greatest(kind: u32, keys: &[u64], next: &[u32], start: u32) -> u32
             break;
         }
         let i = at as usize - 1;
-        if slot_above_slot(kind, keys, i, best as usize - 1, best0) {
+        if slot_above_slot(kind, masks, keys, i, best as usize - 1, best0) {
             best = at;
-            best0 = key0(kind, keys, i);
+            best0 = bare0(kind, keys, i);
         }
         at = next[i];
         turns += 1;
@@ -49,7 +51,7 @@ pub fn spread(
     keys: &[u64],
     next: &mut [u32],
     back: &mut [u32],
-    kind: u32,
+    kind: Kind,
     chain: usize,
     top0: u64,
     top1: u64,
@@ -59,6 +61,7 @@ pub fn spread(
     requires { ⌜ chain < 131 ⌝ }
     ensures { λ r. ⌜ drained (links (now (first .exit)) (now (last .exit)) (now (next .exit)) (now (back .exit)) (now (busy .exit))) r ≡ drainChain kind (now (keys .entry)) (ordered kind top0 top1) chain (links (now (first .entry)) (now (last .entry)) (now (next .entry)) (now (back .entry)) (now (busy .entry))) ⌝ }
 {
+    let masks = keys::kind_masks(kind);
     let n = next.len();
     let mut at = first[chain];
     unmark(busy, chain);
@@ -72,7 +75,7 @@ pub fn spread(
         let slot = at - 1;
         let i = slot as usize;
         at = next[i];
-        let d = slot_distance(kind, keys, i, top0, top1);
+        let d = slot_distance(kind, masks, keys, i, top0, top1);
         append(first, last, busy, next, back, d as usize, slot);
         moves += 1;
     }

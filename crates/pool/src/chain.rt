@@ -3,6 +3,7 @@ use crate::keywords::store_key;
 use crate::state::FREE;
 use crate::summary::mark;
 use crate::summary::unmark;
+use keys::Kind;
 ghost use mathlib.Core.Path.{_≡_};
 ghost use mathlib.Core.List.{List};
 ghost use Prim.Native.Nat.{ℕ, _<_, _≤_, _^_};
@@ -91,7 +92,7 @@ pub fn release(
     values: &mut [u64],
     next: &mut [u32],
     back: &mut [u32],
-    kind: u32,
+    kind: Kind,
     slot: u32,
 )
     requires { ⌜ length (now next) < 2 ^ 32 ⌝ }

@@ -2,6 +2,7 @@
 // of its own: what is left of a budget of n slots is carried from chain to chain.
 use crate::against::slot_above;
 use crate::against::slot_distance;
+use crate::against::slot_is_proper;
 use crate::keywords::key0;
 use crate::keywords::key1;
 use crate::state::DONE;
@@ -14,22 +15,22 @@ use crate::state::UNSOUND;
 use crate::state::WAITING;
 use crate::summary::mark;
 use crate::summary::same_words;
+use keys::Kind;
+use keys::Masks;
 ghost use mathlib.Core.Path.{_≡_};
 ghost use mathlib.Core.List.{List};
 ghost use Prim.Native.Nat.{ℕ, _<_, _≤_};
 ghost use lib.ListN.{length};
+ghost use Rattle.keys.specs.Masks.{Reads};
 ghost use Rattle.pool.specs.World.{links, worldOf};
 ghost use Rattle.pool.specs.Fine.{Room, Holds};
 ghost use Rattle.pool.specs.Examine.{fits as fitsTest, headed, standsAt, emptyAt, okBusy, okFree, verify, scanned, examined};
 
-// Kind 1 to 4, slices that fit each other, no more slots than the limit.
-pub fn fits(kind: u32, keys: usize, values: usize, next: usize, back: usize) -> bool
+// A kind that fits, slices that fit each other, no more slots than the limit.
+pub fn fits(kind: Kind, keys: usize, values: usize, next: usize, back: usize) -> bool
     ensures { λ r. ⌜ r ≡ fitsTest kind keys values next back ⌝ }
 {
-    if kind == 0 {
-        return false;
-    }
-    if 4 < kind {
+    if !keys::kind_fits(kind) {
         return false;
     }
     if LIMIT < next {
@@ -41,21 +42,20 @@ pub fn fits(kind: u32, keys: usize, values: usize, next: usize, back: usize) -> 
     if back != next {
         return false;
     }
-    if kind == 4 {
+    if keys::is_wide(kind) {
         keys == 2 * next
     } else {
         keys == next
     }
 }
 
-// Top words that are not in use are 0.
+// The top is a key of the kind, and top words that are not in use are 0.
 fn top_is_plain(head: Head) -> bool
     ensures { λ r. ⌜ r ≡ headed head ⌝ }
 {
-    if head.kind != 4 {
-        if head.top1 != 0 {
-            return false;
-        }
+    let kind = head.kind;
+    if !keys::is_proper(kind, head.top0, head.top1) {
+        return false;
     }
     if head.topped {
         return true;
@@ -66,9 +66,19 @@ fn top_is_plain(head: Head) -> bool
     head.top1 == 0
 }
 
-// May the slot stand on this chain after the link `before`? Its back link leads there, its key is at
-// most the top, and the chain is that of its key's distance (the waiting chain if there is no top).
-fn stands(head: Head, keys: &[u64], back: &[u32], chain: usize, before: u32, slot: usize) -> bool
+// May the slot stand on this chain after the link `before`? Its back link leads there, its key is one
+// of the kind and at most the top, and the chain is that of its key's distance (the waiting chain if
+// there is no top).
+fn stands(
+    head: Head,
+    masks: Masks,
+    keys: &[u64],
+    back: &[u32],
+    chain: usize,
+    before: u32,
+    slot: usize,
+) -> bool
+    requires { ⌜ Reads masks (head .kind) ⌝ }
     requires { ⌜ slot < length (now back) ⌝ }
     requires { ⌜ Holds (head .kind) (now keys) slot ⌝ }
     ensures { λ r. ⌜ r ≡ standsAt head (now (keys .entry)) (now (back .entry)) chain before slot ⌝ }
@@ -76,17 +86,21 @@ fn stands(head: Head, keys: &[u64], back: &[u32], chain: usize, before: u32, slo
     if back[slot] != before {
         return false;
     }
+    let kind = head.kind;
+    if !slot_is_proper(kind, masks, keys, slot) {
+        return false;
+    }
     if !head.topped {
         return chain == WAITING;
     }
-    if slot_above(head.kind, keys, slot, head.top0, head.top1) {
+    if slot_above(kind, masks, keys, slot, head.top0, head.top1) {
         return false;
     }
-    chain == slot_distance(head.kind, keys, slot, head.top0, head.top1) as usize
+    chain == slot_distance(kind, masks, keys, slot, head.top0, head.top1) as usize
 }
 
 // May the slot stand on the free chain? Its back link, key and value are 0.
-fn is_free(kind: u32, keys: &[u64], values: &[u64], back: &[u32], slot: usize) -> bool
+fn is_free(kind: Kind, keys: &[u64], values: &[u64], back: &[u32], slot: usize) -> bool
     requires { ⌜ slot < length (now back) ⌝ }
     requires { ⌜ slot < length (now values) ⌝ }
     requires { ⌜ Holds kind (now keys) slot ⌝ }
@@ -108,6 +122,7 @@ fn is_free(kind: u32, keys: &[u64], values: &[u64], back: &[u32], slot: usize) -
 // link `end`. Gives 0 if it may not stand, else one more than what is left of the budget.
 fn walk_busy(
     head: Head,
+    masks: Masks,
     keys: &[u64],
     next: &[u32],
     back: &[u32],
@@ -116,6 +131,7 @@ fn walk_busy(
     end: u32,
     budget: usize,
 ) -> usize
+    requires { ⌜ Reads masks (head .kind) ⌝ }
     requires { ⌜ Room (head .kind) (length (now next)) (now keys) ⌝ }
     requires { ⌜ length (now back) ≡ length (now next) ⌝ }
     requires { ⌜ budget ≤ length (now next) ⌝ }
@@ -132,7 +148,7 @@ fn walk_busy(
         if next.len() <= i {
             return 0;
         }
-        if !stands(head, keys, back, chain, before, i) {
+        if !stands(head, masks, keys, back, chain, before, i) {
             return 0;
         }
         before = at;
@@ -150,7 +166,7 @@ fn walk_busy(
 
 // The same along the free chain.
 fn walk_free(
-    kind: u32,
+    kind: Kind,
     keys: &[u64],
     values: &[u64],
     next: &[u32],
@@ -208,6 +224,7 @@ fn walk_all(
     requires { ⌜ length (now back) ≡ length (now next) ⌝ }
     ensures { λ r. ⌜ r ≡ scanned head (links (now (first .entry)) (now (last .entry)) (now (next .entry)) (now (back .entry)) (now (busy .entry))) (now (keys .entry)) ⌝ }
 {
+    let masks = keys::kind_masks(head.kind);
     let mut left = next.len() + 1;
     let mut seen: [u64; 3] = [0; 3];
     let mut c: usize = 0;
@@ -222,7 +239,7 @@ fn walk_all(
             }
             mark(&mut seen, c);
         }
-        left = walk_busy(head, keys, next, back, c, first[c], end, left - 1);
+        left = walk_busy(head, masks, keys, next, back, c, first[c], end, left - 1);
         c += 1;
     }
     if !same_words(&seen, busy) {

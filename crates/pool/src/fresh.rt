@@ -2,6 +2,7 @@
 use crate::state::FREE;
 use crate::state::Head;
 use crate::state::State;
+use keys::Kind;
 ghost use mathlib.Core.Path.{_≡_};
 ghost use Prim.Native.Nat.{_<_, _^_};
 ghost use lib.ListN.{length, replicate};
@@ -56,7 +57,7 @@ pub fn lay_fresh(keys: &mut [u64], values: &mut [u64], next: &mut [u32], back: &
 }
 
 // The state of a fresh heap with n slots: 131 equal chains, and then the free one set.
-pub fn fresh_state(kind: u32, n: u32, topped: bool, top0: u64, top1: u64) -> State
+pub fn fresh_state(kind: Kind, n: u32, topped: bool, top0: u64, top1: u64) -> State
     ensures { λ r. ⌜ r ≡ freshState kind n topped top0 top1 ⌝ }
 {
     let head = Head {

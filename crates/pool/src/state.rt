@@ -1,4 +1,5 @@
 // The state of a heap, which goes into a call by value and comes back by value.
+use keys::Kind;
 ghost use mathlib.Core.Path.{_≡_};
 ghost use Rattle.pool.specs.World.{chainSet};
 
@@ -33,7 +34,7 @@ pub const EMPTY: u8 = 8;
 
 // What a state holds besides its links: the kind of key, how many entries, and the top, if there is one.
 pub struct Head {
-    pub kind: u32,
+    pub kind: Kind,
     pub len: u32,
     pub topped: bool,
     pub top0: u64,
@@ -46,8 +47,9 @@ impl Head {
     pub fn anew(self) -> Head
         ensures { λ r. ⌜ r ≡ self ⌝ }
     {
+        let kind = self.kind;
         Head {
-            kind: self.kind,
+            kind,
             len: self.len,
             topped: self.topped,
             top0: self.top0,

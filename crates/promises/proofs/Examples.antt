@@ -5,30 +5,36 @@ use mathlib.Core.Bool.{Bool, true, false, _&&_}
 use mathlib.Core.List.{List, [], _∷_, _++_, map}
 use Prim.Native.Nat.{ℕ, zero, suc, _+_, _-_, _*_, _^_}
 use lib.Dec.{eqb}
-use lib.ListN.{replicate}
+use lib.ListN.{replicate, set}
 use Rattle.rule.specs.Lists.{sum}
 use Rattle.rule.specs.Width.{distance, zeros}
 use Rattle.rule.specs.Calls.{refusal, taking}
 use Rattle.rule.specs.Rule.{bucketCount, empty, held, put, busy, stay, takeTail, greatest, spread, drain, drainSome, drainBucket, constrain as ruleConstrain, push as rulePush, pop as rulePop, served, serve}
 use Rattle.rule.specs.Ledger.{pushed as noting, moved, bound, opened, everyone, noted, leaving, entered, recordCall, bookAfter}
-use Rattle.keys.specs.Ordered.{width, words, ordered, wellFormed}
+use Rattle.keys.specs.Ordered.{isWide, width, words, ordered, wellFormed, proper}
+use Rattle.keys.specs.declared.kind.Kind.{Kind}
+use Rattle.keys.specs.declared.kind.Table.{Table}
+use Rattle.keys.specs.Table.{bare, mixed, tableOf, kindFits, tableZero}
 use Rattle.pool.specs.World.{blank, World, storeKey, keyWord0, keyWord1, place, within, chains, busyChains}
 use Rattle.pool.specs.Marks.{flag, bits, summary, sameWords}
 use Rattle.pool.specs.Sound.{limit}
 use Rattle.pool.specs.Examine.{standsAt, emptyAt, fits, examined, fitting, headed, scanned, finish, scan, verifyBusy, apart, verify, okBusy, okFree}
 use Rattle.pool.specs.Lay.{topIn, heapIn, heap, withFree, firstIn, after, before, nextIn, backIn, lay, fresh, leading, headAfter}
-use Rattle.engine.specs.Outcome.{refused, done, given, unless, checked}
+use Rattle.engine.specs.Outcome.{refused, done, given, unless, keyCode, checked}
 use Rattle.heap.specs.Calls.{pushInto, push, constrain, popOut, pop, clear, clearTo, top, len, pushed, popped, constrained, cleared, clearedTo, topRead, lenRead, made, madeAt}
 use Rattle.promises.specs.Runs.{keyOf, Ask, AskPush, AskPop, AskConstrain, AskClear, AskClearTo, AskTop, outcome, movesFrom}
-use Rattle.promises.specs.Plain.{unlessMalformed, callOf, ahead, callsOf}
+use Rattle.promises.specs.Plain.{unlessTold, callOf, ahead, callsOf}
 use Rattle.promises.specs.Fresh.{Lent, New, NewAt, started, startTop}
 use Rattle.promises.specs.Promised.{begun, ledger, reported}
 
 -- ---- what calls show
 
 -- n slots for keys of a kind
+abbrev lentOf : Kind → ℕ → Lent
+lentOf kind n = record { kind = kind; keys = replicate (words kind * n) 0; values = replicate n 0; next = replicate n 0; back = replicate n 0 }
+
 abbrev lent : ℕ → ℕ → Lent
-lent kind n = record { kind = kind; keys = replicate (words kind * n) 0; values = replicate n 0; next = replicate n 0; back = replicate n 0 }
+lent kind = lentOf (bare kind)
 
 -- code, moves, key words and value of each call
 shown : World → List Ask → List (List ℕ)
@@ -95,7 +101,7 @@ abbrev least : ℕ
 least = 2 ^ 63
 
 abbrev apartBy : ℕ → ℕ → ℕ → ℕ → ℕ
-apartBy a b c d = distance (width 4) (ordered 4 a b) (ordered 4 c d)
+apartBy a b c d = distance (width (bare 4)) (ordered (bare 4) a b) (ordered (bare 4) c d)
 
 abbrev pair : ℕ → ℕ → Ask
 pair a b = AskPush a b 0
@@ -107,6 +113,33 @@ high = 2 ^ 63
 abbrev both : ℕ
 both = 2 ^ 63 + 2 ^ 62
 
+-- M-100: a day of 32 bits, a road of 16 and a reversed priority of 8, all in the second word
+abbrev jobs : Kind
+jobs = mixed (tableOf 32 16 10 0)
+
+abbrev at : ℕ → ℕ → ℕ → ℕ
+at day road priority = day * 2 ^ 24 + road * 2 ^ 8 + priority
+
+abbrev job : ℕ → ℕ → ℕ → ℕ → Ask
+job day road priority v = AskPush 0 (at day road priority) v
+
+abbrev givesJob : ℕ → ℕ → ℕ → ℕ → ℕ → List ℕ
+givesJob moves day road priority v = 0 ∷ moves ∷ 0 ∷ at day road priority ∷ v ∷ []
+
+-- the codes of a fresh heap of such kinds, with four slots
+abbrev news : List Kind → List ℕ
+news = map (λ (k : Kind). started (lentOf k 4) New .code)
+
+abbrev inKind : ℕ → Table → Kind
+inKind n t = record { number = n; table = t }
+
+-- a heap with its first slot's key, or its top, written over
+abbrev written : World → ℕ → ℕ → World
+written w a b = record { head = w .head; links = w .links; keys = set (set (w .keys) 0 a) 1 b; values = w .values }
+
+abbrev topped : World → ℕ → ℕ → World
+topped w a b = record { head = record { kind = w .head .kind; len = w .head .len; topped = w .head .topped; top0 = a; top1 = b }; links = w .links; keys = w .keys; values = w .values }
+
 table : List Row
 unfolding shown marks nine
 table =
@@ -114,7 +147,7 @@ table =
     row (calls 1 16 nine)
     (replicate 9 ok ++ gives 9 255 0 ∷ gives 8 127 0 ∷ gives 7 63 0 ∷ gives 6 31 0 ∷ gives 5 15 0 ∷ gives 4 7 0 ∷ gives 3 3 0 ∷ gives 2 1 0 ∷ gives 1 0 0 ∷ [])
     -- .. "45, which equals the summed bound of demand 3"
-    ∷ row ((reported (lent 1 16) New nine ∷ sum (bound 64 (keyOf 1)) (everyone (ledger (lent 1 16) New nine)) ∷ []) ∷ [])
+    ∷ row ((reported (lent 1 16) New nine ∷ sum (bound 64 (keyOf (bare 1))) (everyone (ledger (lent 1 16) New nine)) ∷ []) ∷ [])
     ((45 ∷ 45 ∷ []) ∷ [])
     -- 2
     ∷ row (calls 1 16 (AskPush 5 0 1 ∷ AskPush 5 0 2 ∷ AskPush 3 0 3 ∷ AskPush 5 0 4 ∷ pops 4))
@@ -145,6 +178,24 @@ table =
     -- and with pairs in buckets 63, 64, 127 and 128: the ends of the words
     ∷ row (marks (begun (lent 4 4) (NewAt both both)) (pair both high ∷ pair both 1 ∷ pair high 7 ∷ pair 1 7 ∷ AskClear ∷ []))
     ((high ∷ 0 ∷ 0 ∷ []) ∷ (high ∷ 1 ∷ 0 ∷ []) ∷ (high ∷ (high + 1) ∷ 0 ∷ []) ∷ (high ∷ (high + 1) ∷ 1 ∷ []) ∷ (0 ∷ 0 ∷ 0 ∷ []) ∷ [])
+    -- M-100: the day decides, then the road, then the priority, where the smaller number is the greater key. Days 1 and 2 differ in
+    -- bit 2 of the day, so both jobs of day 1 go to bucket 26; priorities 3 and 4 differ in bit 3
+    ∷ row (shown (begun (lentOf jobs 4) New) (job 1 2 4 7 ∷ job 1 2 3 8 ∷ job 2 0 9 9 ∷ pops 2 ++ job 2 0 9 5 ∷ job 1 2 3 6 ∷ pops 2))
+    (replicate 3 ok ++ givesJob 3 2 0 9 9 ∷ givesJob 2 1 2 3 8 ∷ no 6 ∷ ok ∷ givesJob 0 1 2 3 6 ∷ givesJob 1 1 2 4 7 ∷ [])
+    -- "a key with a bit set above its total is code 5", before and after a clear, which keeps the table; and of clear_to
+    ∷ row (shown (begun (lentOf jobs 4) New) (AskPush 0 (2 ^ 56) 0 ∷ AskPush 1 0 0 ∷ AskClear ∷ AskPush 0 (2 ^ 56) 0 ∷ AskClearTo 1 0 ∷ AskClearTo 0 (at 2 0 0) ∷ job 2 0 0 7 ∷ job 2 1 0 7 ∷ AskPop ∷ []))
+    (no 5 ∷ no 5 ∷ ok ∷ no 5 ∷ no 5 ∷ ok ∷ ok ∷ no 6 ∷ givesJob 0 2 0 0 7 ∷ [])
+    -- "in a pool or top code 2"
+    ∷ row
+    (map (λ (w : World). examined w ∷ [])
+    (let held = pushed (begun (lentOf jobs 4) (NewAt 0 (at 2 0 0))) 0 (at 1 2 3) 0 .world in
+    held ∷ written held 0 (at 1 2 3 + 2 ^ 56) ∷ written held 1 (at 1 2 3) ∷ topped held 0 (at 2 0 0 + 2 ^ 56) ∷ topped held 1 (at 2 0 0) ∷ []))
+    ((0 ∷ []) ∷ (2 ∷ []) ∷ (2 ∷ []) ∷ (2 ∷ []) ∷ (2 ∷ []) ∷ [])
+    -- "A table that breaks these limits, or isn't zero in another kind, is code 1", and so is a pool of n key words for 16 bits
+    ∷ row (news (jobs ∷ mixed (tableOf 8 8 0 0) ∷ mixed (tableOf 64 64 0 0) ∷ mixed (tableOf 64 0 0 0) ∷ mixed (tableOf 8 0 8 0) ∷ mixed (tableOf 24 8 0 0) ∷ mixed (tableOf 11 8 0 0) ∷ mixed (tableOf 64 64 8 0) ∷ []) ∷ news (bare 5 ∷ inKind 3 (tableOf 8 8 0 0) ∷ inKind 6 (tableOf 8 8 0 0) ∷ []) ∷ [])
+    ((0 ∷ 0 ∷ 0 ∷ 1 ∷ 1 ∷ 1 ∷ 1 ∷ 1 ∷ []) ∷ (1 ∷ 1 ∷ 1 ∷ []) ∷ [])
+    ∷ row ((made (mixed (tableOf 8 8 0 0)) (replicate 4 0) (replicate 4 0) (replicate 4 0) (replicate 4 0) .code ∷ started (lentOf jobs 4) (NewAt 0 (2 ^ 56)) .code ∷ []) ∷ [])
+    ((1 ∷ 5 ∷ []) ∷ [])
     ∷ []
 
 -- ---- compared number by number
@@ -168,5 +219,5 @@ hold [] = true
 hold (r ∷ rs) = alike (r .shows) (r .says) && hold rs
 
 examples : hold table ≡ true
-unfolding same alike hold table shown marks nine started startTop made madeAt blank outcome movesFrom pushed popped constrained cleared clearedTo topRead lenRead checked unless examined fitting headed scanned sameWords flag bits summary finish scan verifyBusy apart verify standsAt emptyAt okBusy okFree fits limit push pushInto pop popOut constrain headAfter leading clear clearTo top len refused done given fresh heap heapIn topIn withFree lay firstIn after before nextIn backIn chains busyChains width words ordered wellFormed storeKey keyWord0 keyWord1 place within distance zeros empty bucketCount held put busy stay takeTail greatest spread drain drainSome drainBucket ruleConstrain rulePush rulePop served serve refusal taking noting moved bound opened everyone noted leaving entered recordCall bookAfter unlessMalformed callOf ahead callsOf
+unfolding same alike hold table shown marks nine started startTop made madeAt blank outcome movesFrom pushed popped constrained cleared clearedTo topRead lenRead checked unless examined fitting headed scanned sameWords flag bits summary finish scan verifyBusy apart verify standsAt emptyAt okBusy okFree fits limit push pushInto pop popOut constrain headAfter leading clear clearTo top len refused done given fresh heap heapIn topIn withFree lay firstIn after before nextIn backIn chains busyChains width words ordered wellFormed isWide kindFits tableZero proper keyCode storeKey keyWord0 keyWord1 place within distance zeros empty bucketCount held put busy stay takeTail greatest spread drain drainSome drainBucket ruleConstrain rulePush rulePop served serve refusal taking noting moved bound opened everyone noted leaving entered recordCall bookAfter unlessTold callOf ahead callsOf
 examples = refl

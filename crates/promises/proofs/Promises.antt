@@ -3,10 +3,12 @@
 -- ones included. The words of the statements are in specs/; docs/PROMISES.md says the same in plain words.
 use mathlib.Core.Path.{_≡_, refl, sym, ap, _∙_, subst}
 use mathlib.Core.Logic.{_≢_, _↔_, _⊎_}
-use mathlib.Core.Bool.{true}
 use mathlib.Core.List.{List, [], _∷_, _++_}
 use Prim.Native.Nat.{ℕ, zero, suc, _≤_, _<_}
 use lib.ListN.{getD}
+use Rattle.keys.specs.declared.kind.Kind.{Kind}
+use Rattle.keys.specs.Table.{bare}
+use Rattle.keys.specs.Table.{bare}
 use Rattle.rule.specs.Lists.{All, nil, sum}
 use Rattle.rule.specs.Calls.{Above, NotAbove, Answer}
 use Rattle.rule.specs.Rule.{empty}
@@ -18,12 +20,12 @@ use Rattle.rule.proofs.Arranged.{few}
 use Rattle.rule.proofs.Line.{empty-arranged}
 use Rattle.rule.proofs.PlainWords.{last-greatest}
 use Rattle.rule.proofs.Moves.{ledger-heap, moves-accounted as rule-accounted}
-use Rattle.keys.specs.Ordered.{width, ordered, wellFormed}
+use Rattle.keys.specs.Ordered.{width, ordered}
 use Rattle.pool.specs.World.{World, freeChain, blank, size, chain}
 use Rattle.pool.specs.Sound.{Typed, Fit, Whole}
 use Rattle.pool.specs.Examine.{examined}
-use Rattle.pool.proofs.Push.{width-le}
-use Rattle.engine.specs.Outcome.{refused, checked, unless}
+use Rattle.keys.proofs.Ordered.{width-le}
+use Rattle.engine.specs.Outcome.{refused, checked, unless, keyCode}
 use Rattle.heap.specs.Calls.{over, pushed, popped, cleared, clearedTo}
 use Rattle.heap.proofs.Public.{Fair, FairList, refused-changes-nothing as calls-refused}
 use Rattle.bulk.specs.declared.Entry.{Entry as BulkEntry}
@@ -72,13 +74,13 @@ refused-changes-nothing = record {
 }
   where
     fresh-refused : (p : Lent) (s : Start) → started p s .code ≢ 0
-        → started p s ≡ refused (blank 0 (p .keys) (p .values) (p .next) (p .back)) (started p s .code)
+        → started p s ≡ refused (blank (bare 0) (p .keys) (p .values) (p .next) (p .back)) (started p s .code)
     fresh-refused p New = calls-refused .new (p .kind) (p .keys) (p .values) (p .next) (p .back)
     fresh-refused p (NewAt a b) = calls-refused .newAt (p .kind) a b (p .keys) (p .values) (p .next) (p .back)
 
 -- ---- Demand 2, of any sound world
 
-module _ {w : World} (h : Whole w) (a b v : ℕ) (p : wellFormed (w .head .kind) b ≡ true) where
+module _ {w : World} (h : Whole w) (a b v : ℕ) (p : keyCode (w .head .kind) a b ≡ 0) where
   -- "a well-formed push fails exactly when its key is above the top or no slot is free"
   pub push-refused-exactly : (pushed w a b v .code ≢ 0) ↔ (Above (topOn w) (ordered (w .head .kind) a b) ⊎ (chain w freeChain ≡ []))
   push-refused-exactly = refused-exactly h a b v p
@@ -91,12 +93,12 @@ module _ {w : World} (h : Whole w) (a b v : ℕ) (p : wellFormed (w .head .kind)
 
 -- ---- The demands from a fresh heap on
 
--- new is done exactly for kinds 1 to 4 and a fit pool of at most 4,096 slots, and new_at if its key is well-formed besides
+-- new is done exactly for kinds 1 to 5, kind 5 with a table within its limits, and a fit pool of at most 4,096 slots, and new_at if its key may stand besides
 pub new-done-exactly : (p : Lent) → (started p New .code ≡ 0) ↔ Fit (blank (p .kind) (p .keys) (p .values) (p .next) (p .back))
 new-done-exactly = new-exactly
 
 pub new-at-done-exactly : (p : Lent) (a b : ℕ)
-    → (started p (NewAt a b) .code ≡ 0) ↔ (Fit (blank (p .kind) (p .keys) (p .values) (p .next) (p .back)) × (wellFormed (p .kind) b ≡ true))
+    → (started p (NewAt a b) .code ≡ 0) ↔ (Fit (blank (p .kind) (p .keys) (p .values) (p .next) (p .back)) × (keyCode (p .kind) a b ≡ 0))
 new-at-done-exactly = new-at-exactly
 
 module _ (p : Lent) (s : Start) (start : StartWords s) (fresh : started p s .code ≡ 0) where
@@ -140,12 +142,12 @@ module _ (p : Lent) (s : Start) (start : StartWords s) (fresh : started p s .cod
     released-in-order = releases-descend (holds-after holding before bs) since ss going
 
   -- in kind 3's words: no time before one already released
-  pub released-in-time : p .kind ≡ 3 → (before since : List Ask) → All Words before → All Words since → All NoClear (callsOf 3 since)
-      → Ascending (times (answersFrom 3 (worldAfter (begun p s) before) since))
+  pub released-in-time : p .kind ≡ bare 3 → (before since : List Ask) → All Words before → All Words since → All NoClear (callsOf (bare 3) since)
+      → Ascending (times (answersFrom (bare 3) (worldAfter (begun p s) before) since))
   unfolding plainFresh
   released-in-time k before since bs ss going =
-      let r = holds-after (subst (λ (c : ℕ). Holds c (slots p s) (begun p s) (plainFresh (startTop (p .kind) s))) k holding) before bs in
-      releases-in-time r (timely-after 3 (slots p s) (plainFresh (startTop (p .kind) s)) nil before bs) since ss going
+      let r = holds-after (subst (λ (c : Kind). Holds c (slots p s) (begun p s) (plainFresh (startTop (p .kind) s))) k holding) before bs in
+      releases-in-time r (timely-after (bare 3) (slots p s) (plainFresh (startTop (p .kind) s)) nil before bs) since ss going
 
   -- ---- Demand 3: "Over any sequence of calls since a fresh heap or a clear"
 
@@ -183,7 +185,7 @@ module _ (p : Lent) (s : Start) (start : StartWords s) (fresh : started p s .cod
     pub clear-is-new : cleared (worldAfter (begun p s) asks) .world ≡ started p New .world
     clear-is-new = cleared-anew p s fresh (holds-after holding asks ks)
 
-    pub clear-to-is-new-at : (a b : ℕ) → wellFormed (p .kind) b ≡ true
+    pub clear-to-is-new-at : (a b : ℕ) → keyCode (p .kind) a b ≡ 0
         → clearedTo (worldAfter (begun p s) asks) a b .world ≡ started p (NewAt a b) .world
     clear-to-is-new-at a b k = clearedTo-anew p s fresh (holds-after holding asks ks) a b k
 
@@ -210,7 +212,7 @@ module _ (w : World) (typed : Typed (w .links)) where
   bulk-is-the-calls = bulk-runs w typed
 
 -- the calls of any bytes bring words of 64 bits, as the promises ask
-pub batch-words : (kind : ℕ) (bs : List ℕ) → ((k : ℕ) → getD bs k 0 < 256) → All Words (asksOf kind bs)
+pub batch-words : (kind : Kind) (bs : List ℕ) → ((k : ℕ) → getD bs k 0 < 256) → All Words (asksOf kind bs)
 batch-words kind bs small = words-of-batches bs small kind
 
 -- calls after calls are one sequence, so batches and single calls may take turns

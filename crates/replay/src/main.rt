@@ -1,13 +1,15 @@
 // Streams of records, one after the other, each served on a fresh heap of its own: a recorded sample of
 // the crate's answers is held against what this writes.
 //
-// A stream is its kind, its number of slots and its number of records, four bytes each, the lowest first,
-// and then the records. Output is its answers, or one byte with its code. More than 2,048 records are
-// code 4 and a stream that the input cuts off is code 3; after either nothing more is read, since where
-// the next stream starts is not known.
+// A stream is its kind, the four codes of its table, its number of slots and its number of records, four
+// bytes each, the lowest first, and then the records. Output is its answers, or one byte with its code.
+// More than 2,048 records are code 4 and a stream that the input cuts off is code 3; after either nothing
+// more is read, since where the next stream starts is not known.
+use keys::Kind;
+use keys::Table;
 
 // Fills what is lent with a stream's records and serves them. Answers whether they came whole.
-fn serve_records(kind: u32, slots: usize, records: &mut [u8]) -> bool {
+fn serve_records(kind: Kind, slots: usize, records: &mut [u8]) -> bool {
     let got = io::read_full(0, records);
     if got < records.len() {
         gateway::tell(pool::RAGGED);
@@ -18,7 +20,7 @@ fn serve_records(kind: u32, slots: usize, records: &mut [u8]) -> bool {
 }
 
 // Lends the room that so many records take.
-fn serve_stream(kind: u32, slots: usize, records: usize) -> bool {
+fn serve_stream(kind: Kind, slots: usize, records: usize) -> bool {
     if 2048 < records {
         gateway::tell(pool::NO_ROOM);
         return false;
@@ -30,18 +32,20 @@ fn serve_stream(kind: u32, slots: usize, records: usize) -> bool {
 
 // The next stream, if there is one. Answers whether to go on.
 fn serve_next() -> bool {
-    let mut head = [0; 12];
+    let mut head = [0; 16];
     let got = io::read_full(0, &mut head);
     if got == 0 {
         return false;
     }
-    if got < 12 {
+    if got < 16 {
         gateway::tell(pool::RAGGED);
         return false;
     }
-    let kind = gateway::small(head[0], head[1], head[2], head[3]);
-    let slots = gateway::small(head[4], head[5], head[6], head[7]);
-    let records = gateway::small(head[8], head[9], head[10], head[11]);
+    let number = gateway::small(head[0], head[1], head[2], head[3]);
+    let table = Table::of(head[4], head[5], head[6], head[7]);
+    let kind = Kind { number, table };
+    let slots = gateway::small(head[8], head[9], head[10], head[11]);
+    let records = gateway::small(head[12], head[13], head[14], head[15]);
     serve_stream(kind, slots as usize, records as usize)
 }
 

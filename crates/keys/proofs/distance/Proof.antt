@@ -1,92 +1,16 @@
--- `keys::distance` meets its contract: each arm measures the ordered forms of its kind.
-use mathlib.Core.Path.{sym, ap, _∙_}
-use native.Mathlib.Omega.{arith}
+-- `keys::distance` meets its contract: the masks are those of the kind.
 use borrow.Author.Needs.{needs}
-use Rattle.keys.specs.Ordered.{width}
-use Rattle.keys.proofs.Ordered.{as-signed, as-reversed, as-pair, as-plain, distance-as, width-word}
 use Rattle.keys.proofs.distance.Statement.{statement}
 use Rattle.keys.proofs.distance.Tie as tie
 
-from-word-requires : tie.Need-from-word-requires
-from-word-requires c κs = search needs
+kind-masks-requires : tie.Need-kind-masks-requires
+kind-masks-requires c κs = search needs
 
-from-word-requires-2 : tie.Need-from-word-requires-2
-from-word-requires-2 c κs = search needs
-
-distance-requires : tie.Need-distance-requires
-distance-requires c κs = search needs
-
-from-word-requires-3 : tie.Need-from-word-requires-3
-from-word-requires-3 c κs = search needs
-
-from-word-requires-4 : tie.Need-from-word-requires-4
-from-word-requires-4 c κs = search needs
-
-distance-requires-2 : tie.Need-distance-requires-2
-distance-requires-2 c κs = search needs
-
-from-words-requires : tie.Need-from-words-requires
-from-words-requires c κs = search needs
-
-from-words-requires-2 : tie.Need-from-words-requires-2
-from-words-requires-2 c κs = search needs
-
-distance-requires-3 : tie.Need-distance-requires-3
-distance-requires-3 c κs = search needs
-
-from-word-requires-5 : tie.Need-from-word-requires-5
-from-word-requires-5 c κs = search needs
-
-from-word-requires-6 : tie.Need-from-word-requires-6
-from-word-requires-6 c κs = search needs
-
-distance-requires-4 : tie.Need-distance-requires-4
-distance-requires-4 c κs = search needs
+distance-by-requires : tie.Need-distance-by-requires
+distance-by-requires c κs = c .kind-masks .ensures
 
 returns : tie.Need-returns
-returns c =
-    let x = c .before .before .before .before .args in
-    let kind = c .before .before .before .match .keys1 in
-    c .distance .ensures ∙ distance-as (ap width (sym kind)) (as-signed _ (x .a0) (x .a1) kind (c .before .before .from-word .ensures)) (as-signed _ (x .b0) (x .b1) kind (c .before .from-word2 .ensures))
-
-returns-2 : tie.Need-returns-2
-returns-2 c =
-    let x = c .before .before .before .before .args in
-    let kind = c .before .before .before .match .keys2 in
-    c .distance2 .ensures ∙ distance-as (ap width (sym kind)) (as-reversed (x .a1) kind (c .before .before .from-word3 .ensures)) (as-reversed (x .b1) kind (c .before .from-word4 .ensures))
-
-returns-3 : tie.Need-returns-3
-returns-3 c =
-    let kind = c .before .before .before .match .keys3 in
-    let p = c .before .before .from-words .ensures in
-    let q = c .before .from-words2 .ensures in
-    c .distance3 .ensures ∙ distance-as (ap width (sym kind)) (as-pair kind (p .0) (p .1)) (as-pair kind (q .0) (q .1))
-
-returns-4 : tie.Need-returns-4
-returns-4 c =
-    let x = c .before .before .before .before .args in
-    let r = c .before .before .before .match .rest in
-    let p = as-plain (x .a1) (r .0 .0 .1) (r .0 .1) (r .1) (c .before .before .from-word5 .ensures) in
-    let q = as-plain (x .b1) (r .0 .0 .1) (r .0 .1) (r .1) (c .before .from-word6 .ensures) in
-    c .distance4 .ensures ∙ distance-as (width-word 1 (λ e. omega arith) ∙ sym (width-word (x .kind) (r .1))) p q
+returns c = c .distance-by .ensures
 
 pub distance-spec : {M : Type 1} → statement M
-distance-spec =
-    tie.close
-    (tie.spec
-    from-word-requires
-    from-word-requires-2
-    distance-requires
-    from-word-requires-3
-    from-word-requires-4
-    distance-requires-2
-    from-words-requires
-    from-words-requires-2
-    distance-requires-3
-    from-word-requires-5
-    from-word-requires-6
-    distance-requires-4
-    returns
-    returns-2
-    returns-3
-    returns-4)
+distance-spec = tie.close (tie.spec kind-masks-requires distance-by-requires returns)

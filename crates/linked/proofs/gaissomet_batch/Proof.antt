@@ -26,8 +26,8 @@ same-length-5 c = search needs
 
 returns : tie.Need-returns
 returns c =
-    rw (c .before .before .before .before .before .before .before .before .before .before .before .before .before .before .before .before .before .before .before .before .before .whole .ensures)
-    at (c .before .before .before .before .before .before .before .before .before .before .before .before .before .before .before .run .ensures)
+    rw (c .before .before .before .before .before .before .before .before .before .before .before .before .before .before .before .before .before .before .before .before .before .before .before .before .whole .ensures)
+    at (c .before .before .before .before .before .before .before .before .before .before .before .before .before .before .before .before .before .before .run .ensures)
 
 pub gaissomet-batch-spec : {M : Type 1} → statement M
 gaissomet-batch-spec =

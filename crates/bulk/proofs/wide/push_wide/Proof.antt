@@ -49,19 +49,19 @@ loop-holds c = record {
 }
 
 mul-push : tie.Need-mul-push Inv-loop μ-loop
-mul-push c = search needs
+mul-push c = omega (arith, c .before .before .before .before .before .before .before .before .loop .inv .low, c .before .before .before .before .before .before .before .loop-test .taken, c .before .before .before .before .before .before .before .before .before .before .before .before .before .before .before .before .before .good)
 
 shared-slice-read-push : tie.Need-shared-slice-read-push Inv-loop μ-loop
 shared-slice-read-push c = search needs
 
 mul-push-2 : tie.Need-mul-push-2 Inv-loop μ-loop
-mul-push-2 c = search needs
+mul-push-2 c = omega (arith, c .before .before .before .before .before .before .before .before .before .loop .inv .low, c .before .before .before .before .before .before .before .before .loop-test .taken, c .before .before .before .before .before .before .before .before .before .before .before .before .before .before .before .before .before .before .good)
 
 shared-slice-read-push-2 : tie.Need-shared-slice-read-push-2 Inv-loop μ-loop
 shared-slice-read-push-2 c = search needs
 
 mul-push-3 : tie.Need-mul-push-3 Inv-loop μ-loop
-mul-push-3 c = search needs
+mul-push-3 c = omega (arith, c .before .before .before .before .before .before .before .before .before .before .loop .inv .low, c .before .before .before .before .before .before .before .before .before .loop-test .taken, c .before .before .before .before .before .before .before .before .before .before .before .before .before .before .before .before .before .before .before .good)
 
 shared-slice-read-push-3 : tie.Need-shared-slice-read-push-3 Inv-loop μ-loop
 shared-slice-read-push-3 c = search needs

@@ -49,7 +49,7 @@ same-length-2 : tie.Need-same-length-2
 same-length-2 c = search needs
 
 returns : tie.Need-returns
-returns c = drain-gives _ _ _ _ _ _ _ _ _ (c .before .before .before .before .before .before .before .before .before .before .before .before .greatest .ensures) (c .before .before .before .before .before .before .before .before .before .before .before .key0 .ensures) (c .before .before .before .before .before .before .before .before .before .before .key1 .ensures) (c .before .before .before .before .spread .ensures)
+returns c = drain-gives _ _ _ _ _ _ _ _ _ (c .before .before .before .before .before .before .before .before .before .before .before .before .before .greatest .ensures) (c .before .before .before .before .before .before .before .before .before .before .before .before .key0 .ensures) (c .before .before .before .before .before .before .before .before .before .before .before .key1 .ensures) (c .before .before .before .before .before .spread .ensures)
 
 pub drain-spec : {M : Type 1} → statement M
 drain-spec =

@@ -5,6 +5,7 @@ use mathlib.Core.List.{List}
 use native.Mathlib.Omega.{arith}
 use lib.ListN.{length}
 use borrow.Author.Needs.{needs}
+use Rattle.keys.specs.declared.kind.Kind.{Kind}
 use Rattle.pool.specs.World.{waitingChain}
 use Rattle.engine.specs.Core.{Written, wrote, listChains}
 use Rattle.engine.proofs.CodeList.{roomy-as, chain-low, chains-turn, chains-end}
@@ -12,7 +13,7 @@ use Rattle.engine.proofs.listing.list_all.Statement.{statement}
 use Rattle.engine.proofs.listing.list_all.Tie as tie
 
 -- at the loop's head: no more than `len` entries are written, the lists are as long as they were, and what is left to write from here is what there was to write at the start
-record Turn (kind len : ℕ) (keys values first next : List ℕ) (o₀ : Written) (c : ℕ) (o : Written) : Type 0 where
+record Turn (kind : Kind) (len : ℕ) (keys values first next : List ℕ) (o₀ : Written) (c : ℕ) (o : Written) : Type 0 where
   chains : c ≤ waitingChain
   low : o .count ≤ len
   someKeys : length (o .keys) ≡ length (o₀ .keys)

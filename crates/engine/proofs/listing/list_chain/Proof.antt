@@ -5,6 +5,7 @@ use mathlib.Core.List.{List}
 use native.Mathlib.Omega.{arith}
 use lib.ListN.{length}
 use borrow.Author.Needs.{needs}
+use Rattle.keys.specs.declared.kind.Kind.{Kind}
 use Rattle.pool.proofs.Fine.{room-holds}
 use Rattle.engine.specs.Core.{Written, wrote, listFrom}
 use Rattle.engine.proofs.CodeList.{roomy-holds, list-turn, chain-end, chain-stop}
@@ -12,7 +13,7 @@ use Rattle.engine.proofs.listing.list_chain.Statement.{statement}
 use Rattle.engine.proofs.listing.list_chain.Tie as tie
 
 -- at the loop's head: the link is in bounds, no more than `len` entries are written, the lists are as long as they were, and what is left to write from here is what there was to write at the start
-record Turn (kind len : ℕ) (keys values next : List ℕ) (at₀ : ℕ) (o₀ : Written) (at : ℕ) (o : Written) : Type 0 where
+record Turn (kind : Kind) (len : ℕ) (keys values next : List ℕ) (at₀ : ℕ) (o₀ : Written) (at : ℕ) (o : Written) : Type 0 where
   link : at ≤ length next
   low : o .count ≤ len
   someKeys : length (o .keys) ≡ length (o₀ .keys)

@@ -43,8 +43,8 @@ release-requires c κs =
     let p = c .before .before .before .before .before .before .before .before .before .before .before .before .before .before .before .before .before .before .before .before .before .before .before .pre .0 in
     (omega (arith, u .fine .nexts, u .fine .small), (omega (arith, u .fine .nexts, u .fine .backs), (room-as (u .fine .nexts) (p .room), (omega (arith, u .fine .nexts), omega (arith, u .fine .nexts)))))
 
-sub-t41 : tie.Need-sub-t41
-sub-t41 c = omega (arith, c .before .before .before .before .before .before .before .before .before .before .before .before .before .before .before .before .before .before .before .before .before .before .before .before .before .before .before .before .before .before .before .before .before .pre .1 .1)
+sub-t42 : tie.Need-sub-t42
+sub-t42 c = omega (arith, c .before .before .before .before .before .before .before .before .before .before .before .before .before .before .before .before .before .before .before .before .before .before .before .before .before .before .before .before .before .before .before .before .before .before .pre .1 .1)
 
 same-length : tie.Need-same-length
 same-length c = search needs
@@ -59,7 +59,7 @@ same-length-4 : tie.Need-same-length-4
 same-length-4 c = search needs
 
 returns : tie.Need-returns
-returns c = (refl, tail-gives _ _ _ _ _ _ _ _ _ (c .before .before .before .before .before .before .before .before .before .before .before .before .before .before .before .before .before .before .before .before .before .before .before .unhook-tail .ensures) (c .before .before .before .before .before .before .before .before .before .before .before .before .before .before .before .before .before .before .before .key0 .ensures) (c .before .before .before .before .before .before .before .before .before .before .before .before .before .before .before .before .before .key1 .ensures) (c .before .before .before .before .before .before .before .before .before .release .ensures _))
+returns c = (refl, tail-gives _ _ _ _ _ _ _ _ _ (c .before .before .before .before .before .before .before .before .before .before .before .before .before .before .before .before .before .before .before .before .before .before .before .before .unhook-tail .ensures) (c .before .before .before .before .before .before .before .before .before .before .before .before .before .before .before .before .before .before .before .before .key0 .ensures) (c .before .before .before .before .before .before .before .before .before .before .before .before .before .before .before .before .before .before .key1 .ensures) (c .before .before .before .before .before .before .before .before .before .before .release .ensures _))
 
 pub take-tail-spec : {M : Type 1} → statement M
 take-tail-spec =
@@ -72,7 +72,7 @@ take-tail-spec =
     mul-value
     slice-read-value
     release-requires
-    sub-t41
+    sub-t42
     same-length
     same-length-2
     same-length-3

@@ -42,7 +42,7 @@ lay-fresh-requires : tie.Need-lay-fresh-requires
 lay-fresh-requires c κs = small (c .before .before .before .before)
 
 cast-fresh-state : tie.Need-cast-fresh-state
-cast-fresh-state c = omega (arith, small (c .before .before .before .before .before .before .before .before .before .before .before .before .before))
+cast-fresh-state c = omega (arith, small (c .before .before .before .before .before .before .before .before .before .before .before .before .before .before))
 
 fresh-state-requires : tie.Need-fresh-state-requires
 fresh-state-requires c κs = search needs
@@ -61,8 +61,8 @@ same-length-8 c = search needs
 
 returns-2 : tie.Need-returns-2
 returns-2 c =
-    let d = c .before .before .before .before .before .before .before .before .before .before .before .before .before .before in
-    cleared-fresh _ _ (d .before .examine .ensures) (typed d) (d .if1 .left) _ _ _ _ _ (c .before .before .before .before .before .before .before .before .before .lay-fresh .ensures) (c .fresh-state .ensures)
+    let d = c .before .before .before .before .before .before .before .before .before .before .before .before .before .before .before in
+    cleared-fresh _ _ (d .before .examine .ensures) (typed d) (d .if1 .left) _ _ _ _ _ (c .before .before .before .before .before .before .before .before .before .before .lay-fresh .ensures) (c .fresh-state .ensures)
 
 pub clear-spec : {M : Type 1} → statement M
 clear-spec =

@@ -3,7 +3,6 @@ use mathlib.Core.Path.{sym, _∙_}
 use Prim.Native.Nat.{_^_, _<_}
 use native.Mathlib.Omega.{arith}
 use borrow.Author.Needs.{needs}
-use borrow.Author.Tests.{not-true, not-false}
 use lib.ListN.{length}
 use Rattle.pool.specs.Sound.{Typed}
 use Rattle.pool.proofs.CodeState.{state-typed}
@@ -33,8 +32,8 @@ returns : tie.Need-returns
 unfolding clearedTo
 returns c = stopped _ _ (c .before .examine .ensures) _ (c .if1 .taken)
 
-well-formed-requires : tie.Need-well-formed-requires
-well-formed-requires c κs = search needs
+key-code-requires : tie.Need-key-code-requires
+key-code-requires c κs = search needs
 
 same-length-5 : tie.Need-same-length-5
 same-length-5 c = search needs
@@ -56,13 +55,13 @@ small : (c : tie.Else1) → length (c .before .before .before .before .before .b
 small c = passed-small _ _ (c .before .examine .ensures) (typed c) (c .if1 .left)
 
 returns-2 : tie.Need-returns-2
-returns-2 c = clearedTo-malformed _ _ (c .before .before .before .examine .ensures) (typed (c .before .before)) (c .before .before .if1 .left) _ _ (sym (c .before .well-formed .ensures) ∙ not-true _ (c .if2 .taken))
+returns-2 c = clearedTo-malformed _ _ (c .before .before .before .before .examine .ensures) (typed (c .before .before .before)) (c .before .before .before .if1 .left) _ _ _ (c .before .key-code .ensures) (c .if2 .taken)
 
 lay-fresh-requires : tie.Need-lay-fresh-requires
-lay-fresh-requires c κs = small (c .before .before .before .before .before .before)
+lay-fresh-requires c κs = small (c .before .before .before .before .before .before .before)
 
 cast-fresh-state : tie.Need-cast-fresh-state
-cast-fresh-state c = omega (arith, small (c .before .before .before .before .before .before .before .before .before .before .before .before .before .before .before))
+cast-fresh-state c = omega (arith, small (c .before .before .before .before .before .before .before .before .before .before .before .before .before .before .before .before))
 
 fresh-state-requires : tie.Need-fresh-state-requires
 fresh-state-requires c κs = search needs
@@ -82,7 +81,7 @@ same-length-12 c = search needs
 returns-3 : tie.Need-returns-3
 returns-3 c =
     let d = c .before .before .before .before .before .before .before .before .before .before .before .before .before .before in
-    clearedTo-fresh _ _ (d .before .before .before .examine .ensures) (typed (d .before .before)) (d .before .before .if1 .left) _ _ _ _ _ _ _ (sym (d .before .well-formed .ensures) ∙ not-false _ (d .if2 .left)) (c .before .before .before .before .before .before .before .before .before .lay-fresh .ensures) (c .fresh-state .ensures)
+    clearedTo-fresh _ _ (d .before .before .before .before .examine .ensures) (typed (d .before .before .before)) (d .before .before .before .if1 .left) _ _ _ _ _ _ _ (sym (d .before .key-code .ensures) ∙ d .if2 .left) (c .before .before .before .before .before .before .before .before .before .lay-fresh .ensures) (c .fresh-state .ensures)
 
 pub clear-to-spec : {M : Type 1} → statement M
 clear-to-spec =
@@ -94,7 +93,7 @@ clear-to-spec =
     same-length-3
     same-length-4
     returns
-    well-formed-requires
+    key-code-requires
     same-length-5
     same-length-6
     same-length-7

@@ -19,8 +19,8 @@ no-state-requires c κs = search needs
 returns : tie.Need-returns
 returns c = madeAt-unfit _ _ _ _ _ _ _ _ (sym (c .before .before .fits2 .ensures) ∙ not-true _ (c .before .if1 .taken)) (c .no-state .ensures)
 
-well-formed-requires : tie.Need-well-formed-requires
-well-formed-requires c κs = search needs
+key-code-requires : tie.Need-key-code-requires
+key-code-requires c κs = search needs
 
 no-state-requires-2 : tie.Need-no-state-requires-2
 no-state-requires-2 c κs = search needs
@@ -35,7 +35,7 @@ small c =
     tested-small (x .kind) (x .keys .now) (x .values .now) (x .next .now) (x .back .now) (fit c)
 
 returns-2 : tie.Need-returns-2
-returns-2 c = madeAt-malformed _ _ _ _ _ _ _ _ (fit (c .before .before .before)) (sym (c .before .before .well-formed .ensures) ∙ not-true _ (c .before .if2 .taken)) (c .no-state2 .ensures)
+returns-2 c = madeAt-malformed _ _ _ _ _ _ _ _ _ (fit (c .before .before .before)) (c .before .before .key-code .ensures) (c .before .if2 .taken) (c .no-state2 .ensures)
 
 lay-fresh-requires : tie.Need-lay-fresh-requires
 lay-fresh-requires c κs = small (c .before .before .before .before .before .before)
@@ -61,7 +61,7 @@ same-length-4 c = search needs
 returns-3 : tie.Need-returns-3
 returns-3 c =
     let d = c .before .before .before .before .before .before .before .before .before .before .before .before .before .before in
-    madeAt-fresh _ _ _ _ _ _ _ _ _ _ _ _ (fit (d .before .before)) (sym (d .before .well-formed .ensures) ∙ not-false _ (d .if2 .left)) (c .before .before .before .before .before .before .before .before .before .lay-fresh .ensures) (c .fresh-state .ensures)
+    madeAt-fresh _ _ _ _ _ _ _ _ _ _ _ _ (fit (d .before .before)) (sym (d .before .key-code .ensures) ∙ d .if2 .left) (c .before .before .before .before .before .before .before .before .before .lay-fresh .ensures) (c .fresh-state .ensures)
 
 pub new-at-spec : {M : Type 1} → statement M
 new-at-spec =
@@ -70,7 +70,7 @@ new-at-spec =
     fits-requires
     no-state-requires
     returns
-    well-formed-requires
+    key-code-requires
     no-state-requires-2
     returns-2
     lay-fresh-requires

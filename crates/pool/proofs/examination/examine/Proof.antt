@@ -7,6 +7,7 @@ use borrow.Author.Needs.{needs}
 use borrow.Author.Tests.{not-true, not-false}
 use Rattle.pool.specs.World.{World, worldOf, size}
 use Rattle.pool.specs.Examine.{fitting, examined, finish}
+use Rattle.pool.specs.Sound.{limit}
 use Rattle.pool.proofs.Exam.{fitting-fit}
 use Rattle.pool.proofs.Fine.{fit-room}
 use Rattle.pool.proofs.CodeExam.{fitting-is, unfit-code, unheaded-code, headed-code, scan-few, finish-refused, finish-miscounted, finish-unfree, finish-sound}
@@ -55,7 +56,8 @@ cast-if4 : tie.Need-cast-if4
 cast-if4 c = search needs
 
 add-if4 : tie.Need-add-if4
-add-if4 c = omega (arith, few (c .before .before))
+unfolding limit
+add-if4 c = omega (arith, few (c .before .before), fitting-fit _ (fit (c .before .before .before .before .before .before .before .before .before .before .before)) .small)
 
 returns-4 : tie.Need-returns-4
 returns-4 c = sym (scanned (c .before .before .before) ∙ finish-miscounted _ (c .before .before .if3 .left) (c .if4 .taken))

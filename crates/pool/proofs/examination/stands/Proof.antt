@@ -2,7 +2,7 @@
 use mathlib.Core.Path.{sym, _∙_}
 use borrow.Author.Needs.{needs}
 use borrow.Author.Tests.{not-true, not-false}
-use Rattle.pool.proofs.CodeExam.{stands-astray, stands-waiting, stands-above, stands-home}
+use Rattle.pool.proofs.CodeExam.{stands-astray, stands-unfit, stands-waiting, stands-above, stands-home}
 use Rattle.pool.proofs.examination.stands.Statement.{statement}
 use Rattle.pool.proofs.examination.stands.Tie as tie
 
@@ -15,16 +15,26 @@ shared-slice-read-if1 c = search needs
 returns : tie.Need-returns
 returns c = sym (stands-astray _ _ _ _ _ _ (c .if1 .taken))
 
-returns-2 : tie.Need-returns-2
-returns-2 c = sym (stands-waiting _ _ _ _ _ _ (c .before .before .if1 .left) (not-true _ (c .if2 .taken)))
+slot-is-proper-requires : tie.Need-slot-is-proper-requires
+slot-is-proper-requires c κs = search needs
 
-slot-above-requires : tie.Need-slot-above-requires
-slot-above-requires c κs = search needs
+returns-2 : tie.Need-returns-2
+returns-2 c = sym (stands-unfit _ _ _ _ _ _ (c .before .before .before .if1 .left) (sym (c .before .slot-is-proper .ensures) ∙ not-true _ (c .if2 .taken)))
 
 returns-3 : tie.Need-returns-3
 returns-3 c =
     let d = c .before .before in
-    sym (stands-above _ _ _ _ _ _ (d .before .before .if1 .left) (not-false _ (d .if2 .left)) (sym (c .before .slot-above .ensures) ∙ c .if3 .taken))
+    sym (stands-waiting _ _ _ _ _ _ (d .before .before .before .if1 .left) (sym (d .before .slot-is-proper .ensures) ∙ not-false _ (d .if2 .left)) (not-true _ (c .if3 .taken)))
+
+slot-above-requires : tie.Need-slot-above-requires
+slot-above-requires c κs = search needs
+
+returns-4 : tie.Need-returns-4
+returns-4 c =
+    let d = c .before .before .before .before in
+    sym
+    (stands-above _ _ _ _ _ _ (d .before .before .before .if1 .left) (sym (d .before .slot-is-proper .ensures) ∙ not-false _ (d .if2 .left)) (not-false _ (c .before .before .if3 .left))
+    (sym (c .before .slot-above .ensures) ∙ c .if4 .taken))
 
 slot-distance-requires : tie.Need-slot-distance-requires
 slot-distance-requires c κs = search needs
@@ -32,10 +42,12 @@ slot-distance-requires c κs = search needs
 cast-result : tie.Need-cast-result
 cast-result c = search needs
 
-returns-4 : tie.Need-returns-4
-returns-4 c =
-    let d = c .before .before .before in
-    sym (stands-home _ _ _ _ _ _ (d .before .before .if1 .left) (not-false _ (d .if2 .left)) (sym (c .before .before .slot-above .ensures) ∙ c .before .if3 .left) (c .slot-distance .ensures))
+returns-5 : tie.Need-returns-5
+returns-5 c =
+    let d = c .before .before .before .before .before in
+    sym
+    (stands-home _ _ _ _ _ _ (d .before .before .before .if1 .left) (sym (d .before .slot-is-proper .ensures) ∙ not-false _ (d .if2 .left)) (not-false _ (c .before .before .before .if3 .left))
+    (sym (c .before .before .slot-above .ensures) ∙ c .before .if4 .left) (c .slot-distance .ensures))
 
 pub stands-spec : {M : Type 1} → statement M
 stands-spec =
@@ -44,9 +56,11 @@ stands-spec =
     mul-if1
     shared-slice-read-if1
     returns
+    slot-is-proper-requires
     returns-2
-    slot-above-requires
     returns-3
+    slot-above-requires
+    returns-4
     slot-distance-requires
     cast-result
-    returns-4)
+    returns-5)

@@ -15,10 +15,10 @@ use Rattle.pool.proofs.examination.walk_busy.Statement.{statement}
 use Rattle.pool.proofs.examination.walk_busy.Tie as tie
 
 abbrev Inv-loop : tie.InvT-loop
-Inv-loop head keys next back chain start end budget left₀ before₀ at₀ left before at = Turn (okBusy head (links [] [] next back []) keys chain) next end budget start left before at
+Inv-loop head masks keys next back chain start end budget left₀ before₀ at₀ left before at = Turn (okBusy head (links [] [] next back []) keys chain) next end budget start left before at
 
 abbrev μ-loop : tie.MeasureT-loop
-μ-loop head keys next back chain start end budget left₀ before₀ at₀ left before at = left
+μ-loop head masks keys next back chain start end budget left₀ before₀ at₀ left before at = left
 
 loop-holds : tie.Need-loop-holds Inv-loop μ-loop
 loop-holds c = record { few = search needs; link = c .before .before .before .fits .start .fits; same = refl }
@@ -38,7 +38,9 @@ returns c first last busy =
     sym (turn-refused (l .inv) (d .before .loop-test .taken) (d .if1 .left) (busy-out (x .head) (links [] [] (x .next .now) (x .back .now) []) (x .keys .now) (x .chain) (l .before) (l .at - 1) (c .if2 .taken)))
 
 stands-requires : tie.Need-stands-requires Inv-loop μ-loop
-stands-requires c κs = (search needs, room-holds _ (c .before .before .before .before .before .before .before .pre .0) (c .if2 .left))
+stands-requires c κs =
+    let given = c .before .before .before .before .before .before .before .pre in
+    (given .0, (search needs, room-holds _ (given .1 .0) (c .if2 .left)))
 
 returns-2 : tie.Need-returns-2 Inv-loop μ-loop
 unfolding okBusy

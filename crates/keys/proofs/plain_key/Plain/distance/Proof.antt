@@ -1,6 +1,6 @@
 -- `keys::Plain::distance` meets its contract: a plain number is its own ordered form.
 use borrow.Author.Needs.{needs}
-use Rattle.keys.specs.Ordered.{width, ordered}
+use Rattle.keys.specs.Parts.{formed}
 use Rattle.keys.proofs.plain_key.Plain.distance.Statement.{statement}
 use Rattle.keys.proofs.plain_key.Plain.distance.Tie as tie
 
@@ -8,7 +8,7 @@ apart-requires : tie.Need-apart-requires
 apart-requires c κs = search needs
 
 returns : tie.Need-returns
-unfolding width ordered
+unfolding formed
 returns c = c .apart .ensures
 
 pub distance-spec : {M : Type 1} → statement M

@@ -1,8 +1,8 @@
 -- `keys::Reversed::distance` meets its contract: reversed numbers are as far apart as the numbers.
 use mathlib.Core.Path.{sym, _∙_}
-use native.Mathlib.Omega.{arith}
 use borrow.Author.Needs.{needs}
-use Rattle.keys.proofs.Ordered.{distance-word}
+use Rattle.keys.specs.Parts.{reversed}
+use Rattle.keys.proofs.Parts.{formed-keeps}
 use Rattle.keys.proofs.reversed_key.Reversed.distance.Statement.{statement}
 use Rattle.keys.proofs.reversed_key.Reversed.distance.Tie as tie
 
@@ -11,9 +11,7 @@ apart-requires c κs = search needs
 
 returns : tie.Need-returns
 returns c =
-    let a = c .before .args .self .0 in
-    let b = c .before .args .other .0 in
-    c .apart .ensures ∙ sym (distance-word a 0 (search needs) (search needs) b 0 (search needs) (search needs) 3 (λ e. omega arith))
+    c .apart .ensures ∙ sym (formed-keeps 64 reversed {x = c .before .args .self .0} {y = c .before .args .other .0} (search needs) (search needs))
 
 pub distance-spec : {M : Type 1} → statement M
 distance-spec = tie.close (tie.spec apart-requires returns)

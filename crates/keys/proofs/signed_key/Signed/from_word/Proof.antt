@@ -7,7 +7,7 @@ use lib.IntN.{ℤ, pos, negsuc, _+ℤ_}
 use mir.Syntax.{w64}
 use mir.Val.{SFits, toZ}
 use mir.Facts.{toZ-ofZ, toZ-pos}
-use Rattle.keys.specs.Ordered.{ordered}
+use Rattle.keys.specs.Parts.{signed, formed}
 use Rattle.keys.proofs.Twos.{low-half, high-half, down, up}
 use Rattle.keys.proofs.signed_key.Signed.from_word.Statement.{statement}
 use Rattle.keys.proofs.signed_key.Signed.from_word.Tie as tie
@@ -23,8 +23,8 @@ module _ (w : ℕ) (l : 2 ^ 63 ≤ w) (u : w < 2 ^ 64) where
   moved-fits : SFits w64 (toZ w64 (w - 2 ^ 63) +ℤ negsuc 9223372036854775807)
   moved-fits = subst (SFits w64) (sym moved) (record { sfits = omega arith })
 
-  moved-back : negsuc (2 ^ 64 - 1 - w) +ℤ pos (2 ^ 63) ≡ pos (ordered 2 w 0)
-  unfolding ordered
+  moved-back : negsuc (2 ^ 64 - 1 - w) +ℤ pos (2 ^ 63) ≡ pos (formed 64 signed w)
+  unfolding formed
   moved-back = up (2 ^ 63) (2 ^ 64 - 1 - w) (omega arith) ∙ ap pos (omega (arith, high-half 63 w l u))
 
 cast-t4 : tie.Need-cast-t4
@@ -37,7 +37,7 @@ add-t7 : tie.Need-add-t7
 add-t7 c = moved-fits (c .before .args .w) (c .if1 .left) (c .before .fits .w .fits)
 
 returns : tie.Need-returns
-unfolding ordered
+unfolding formed
 returns c = ap (λ (z : ℤ). z +ℤ pos (2 ^ 63)) (toZ-pos w64 (c .if1 .taken)) ∙ ap pos (sym (low-half 63 (c .before .args .w) (c .if1 .taken)))
 
 returns-2 : tie.Need-returns-2

@@ -9,7 +9,7 @@ use lib.Signed.{ltZ, mag, nonNeg}
 use mir.Syntax.{w64}
 use mir.Val.{Fits, SFits, toZ, ofZ}
 use mir.Facts.{toZ-ofZ, toZ-pos}
-use Rattle.keys.specs.Ordered.{ordered}
+use Rattle.keys.specs.Parts.{signed, formed}
 use Rattle.keys.proofs.Twos.{negative, plain, low-half}
 use Rattle.keys.proofs.signed_key.Signed.word.Statement.{statement}
 use Rattle.keys.proofs.signed_key.Signed.word.Tie as tie
@@ -45,9 +45,9 @@ module _ (z : ℤ) (f : mag z < 2 ^ 63) where
     add-fits : Fits w64 (natAbs (held (moved z)) + 2 ^ 63)
     add-fits = subst (λ (y : ℤ). Fits w64 (natAbs y + 2 ^ 63)) (sym moved-held) (record { fits = omega arith })
 
-    word-neg : z +ℤ pos (2 ^ 63) ≡ pos (ordered 2 (natAbs (held (moved z)) + 2 ^ 63) 0)
-    unfolding ordered
-    word-neg = negative (2 ^ 63) z f is-neg ∙ ap pos (omega arith) ∙ ap (λ (y : ℤ). pos (ordered 2 (natAbs y + 2 ^ 63) 0)) (sym moved-held)
+    word-neg : z +ℤ pos (2 ^ 63) ≡ pos (formed 64 signed (natAbs (held (moved z)) + 2 ^ 63))
+    unfolding formed
+    word-neg = negative (2 ^ 63) z f is-neg ∙ ap pos (omega arith) ∙ ap (λ (y : ℤ). pos (formed 64 signed (natAbs y + 2 ^ 63))) (sym moved-held)
 
   module _ (t : ltZ (held z) (pos 0) ≡ false) where
     held-is : held z ≡ pos (mag z)
@@ -56,9 +56,9 @@ module _ (z : ℤ) (f : mag z < 2 ^ 63) where
     plain-fits : T (nonNeg (held z)) × Fits w64 (natAbs (held z))
     plain-fits = subst (λ (y : ℤ). T (nonNeg y) × Fits w64 (natAbs y)) (sym held-is) (tt, record { fits = omega (arith, f) })
 
-    word-plain : z +ℤ pos (2 ^ 63) ≡ pos (ordered 2 (natAbs (held z)) 0)
-    unfolding ordered
-    word-plain = ap (λ (y : ℤ). y +ℤ pos (2 ^ 63)) (sym back ∙ held-is) ∙ ap pos (sym (low-half 63 (mag z) f)) ∙ ap (λ (y : ℤ). pos (ordered 2 (natAbs y) 0)) (sym held-is)
+    word-plain : z +ℤ pos (2 ^ 63) ≡ pos (formed 64 signed (natAbs (held z)))
+    unfolding formed
+    word-plain = ap (λ (y : ℤ). y +ℤ pos (2 ^ 63)) (sym back ∙ held-is) ∙ ap pos (sym (low-half 63 (mag z) f)) ∙ ap (λ (y : ℤ). pos (formed 64 signed (natAbs y))) (sym held-is)
 
 sub-result : tie.Need-sub-result
 sub-result c = sub-fits (c .before .before .args .self .0) (c .before .struct-told .given .0 .1) (c .if1 .taken)

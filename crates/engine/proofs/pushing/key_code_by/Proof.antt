@@ -1,0 +1,18 @@
+-- `engine::pushing::key_code_by` meets its contract: each way out gives the code of `keyCode` under the test.
+use mathlib.Core.Path.{sym, _∙_}
+use borrow.Author.Tests.{not-true, not-false}
+use Rattle.engine.proofs.CodePush.{key-malformed, key-done}
+use Rattle.engine.proofs.pushing.key_code_by.Statement.{statement}
+use Rattle.engine.proofs.pushing.key_code_by.Tie as tie
+
+well-formed-by-requires : tie.Need-well-formed-by-requires
+well-formed-by-requires c κs = c .pre
+
+returns : tie.Need-returns
+returns c = key-malformed _ _ _ (sym (c .before .well-formed-by .ensures) ∙ not-true _ (c .if1 .taken))
+
+returns-2 : tie.Need-returns-2
+returns-2 c = key-done _ _ _ (sym (c .before .well-formed-by .ensures) ∙ not-false _ (c .if1 .left))
+
+pub key-code-by-spec : {M : Type 1} → statement M
+key-code-by-spec = tie.close (tie.spec well-formed-by-requires returns returns-2)
