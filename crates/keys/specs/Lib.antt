@@ -1,9 +1,11 @@
 -- What a key is, in this order.
 --   Parts    keys of several parts, over any list of parts
+--   Tuple    the crate's rule for them, part by part: a later part counts only if the earlier ones are equal
 --   Table    the table of a mixed key, and its limits
 --   Ordered  the kinds: bits, words, ordered forms, well-formed keys
 --   Masks    what the code computes from a table
 pub mod Parts
+pub mod Tuple
 pub mod Table
 pub mod Ordered
 pub mod Masks
