@@ -1,4 +1,5 @@
 // Keys made from their words and back, compared and measured: a line for each test, with its outcome.
+mod mixed;
 mod rounds;
 
 use keys::Kind;
@@ -133,4 +134,5 @@ fn main() {
     other_rounds();
     other_lines();
     distance_lines();
+    mixed::lines();
 }

@@ -7,8 +7,10 @@ use Prim.Native.Nat.{ℕ, _+_, _*_, _-_, _/_, _%_, _^_}
 use lib.Dec.{eqb, ltb}
 use Rattle.rule.specs.Width.{distance}
 use Rattle.keys.specs.declared.kind.Kind.{Kind}
+use Rattle.keys.specs.declared.packing.Parts.{Parts}
 use Rattle.keys.specs.Table.{bare}
 use Rattle.keys.specs.Ordered.{width, ordered, wellFormed}
+use Rattle.keys.specs.Packing.{partsFit, packedOf, partsOf}
 use Rattle.keys.proofs.ExamplesTable.{all, none, mixed}
 
 -- the first words differ in their lowest bit
@@ -85,3 +87,19 @@ job-bit-above = refl
 pub across : ltb (ordered (mixed 8 65 8 0) (2 ^ 8 - 1) (2 ^ 64 - 1)) (ordered (mixed 8 65 8 0) 0 0) ≡ true
 unfolding ordered
 across = refl
+
+-- the planning desk's line: day 1, road 2, priority 3; a road of 17 bits and a part that the table does not have are refused
+abbrev line : ℕ → ℕ → ℕ → ℕ → Parts
+line a b c d = record { first = a; second = b; third = c; fourth = d }
+
+pub job-packed : (partsFit (job .table) (line 1 2 3 0) && eqb (packedOf (job .table) (line 1 2 3 0)) (at 1 2 3)) ≡ true
+unfolding packedOf
+job-packed = refl
+
+pub job-unpacked : partsOf (job .table) (at 1 2 3) ≡ line 1 2 3 0
+unfolding partsOf
+job-unpacked = refl
+
+pub job-refused : none (partsFit (job .table) (line 1 (2 ^ 16) 3 0) ∷ partsFit (job .table) (line 1 2 3 1) ∷ []) ≡ true
+unfolding partsFit
+job-refused = refl

@@ -4,8 +4,10 @@
 --   Table    the table of a mixed key, and its limits
 --   Ordered  the kinds: bits, words, ordered forms, well-formed keys
 --   Masks    what the code computes from a table
+--   Packing  a mixed key made from its parts, and read back
 pub mod Parts
 pub mod Tuple
 pub mod Table
 pub mod Ordered
 pub mod Masks
+pub mod Packing
