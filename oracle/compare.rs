@@ -2,14 +2,17 @@
 
 use crate::fail;
 use crate::judge::crate_says;
-use crate::streams::{stream, Dice, Stream, SLOTS};
+use crate::streams::{each_bit, stream, Dice, Stream, Table, NO_TABLE, SLOTS};
+use crate::tuples::TABLES;
+use std::collections::HashSet;
 use std::io::Write;
 use std::process::{Command, Stdio};
 
-/// The answers that the port gives: the program `mirror`, with the kind and the slots before the records.
+/// The answers that the port gives: the program `mirror`, with the kind, the table and the slots before the records.
 fn port_says(mirror: &[&str], stream: &Stream) -> Vec<u8> {
-    let mut input = Vec::with_capacity(8 + 32 * stream.records.len());
+    let mut input = Vec::with_capacity(12 + 32 * stream.records.len());
     input.extend_from_slice(&stream.kind.to_le_bytes());
+    input.extend_from_slice(&stream.table);
     input.extend_from_slice(&stream.slots.to_le_bytes());
     stream.bytes(&mut input);
     let mut child = Command::new(mirror[0])
@@ -46,7 +49,7 @@ fn shrunk(mirror: &[&str], mut s: Stream) -> Stream {
 
 fn show(mirror: &[&str], s: &Stream) {
     let (a, b) = (crate_says(s), port_says(mirror, s));
-    println!("kind {}, {} slots, {} records:", s.kind, s.slots, s.records.len());
+    println!("kind {}, table {:?}, {} slots, {} records:", s.kind, s.table, s.slots, s.records.len());
     for (i, r) in s.records.iter().enumerate() {
         println!("  {i}: op {} rest {} key {} {} value {}", r.op, r.rest, r.key0, r.key1, r.value);
         for (who, says) in [("crate", &a), ("port ", &b)] {
@@ -55,33 +58,58 @@ fn show(mirror: &[&str], s: &Stream) {
     }
 }
 
-/// Streams until so many records were compared.
-pub fn compare(wanted: u64, seed: u64, mirror: &[&str]) {
+fn of_any_length(dice: &mut Dice, kind: u32, table: Table, slots: u32) -> Stream {
+    let length = dice.of(&[1usize, 17, 300, 1200, 2048]);
+    stream(dice, kind, table, slots, length)
+}
+
+/// A round of kinds 1 to 4, each with each number of slots.
+fn of_words(dice: &mut Dice, _: usize) -> Vec<Stream> {
+    (1..=4).flat_map(|kind| SLOTS.map(|slots| of_any_length(dice, kind, NO_TABLE, slots))).collect()
+}
+
+/// A round of kind 5, the next table for each number of slots, and every bit of a key for one of them.
+fn of_parts(dice: &mut Dice, round: usize) -> Vec<Stream> {
+    let table = |i: usize| TABLES[(round + i) % TABLES.len()].table;
+    let mut all: Vec<_> = SLOTS.iter().enumerate().map(|(i, &slots)| of_any_length(dice, 5, table(i), slots)).collect();
+    all.push(each_bit(table(0), 257, 128));
+    all
+}
+
+/// Rounds until so many records were compared.
+fn pass(what: &str, rounds: fn(&mut Dice, usize) -> Vec<Stream>, wanted: u64, seed: u64, mirror: &[&str]) {
     let mut dice = Dice(seed);
-    let (mut records, mut streams, mut told) = (0u64, 0u64, 0u64);
-    let mut codes = [0u64; 9];
-    println!("seed {seed}");
+    let (mut records, mut streams, mut told, mut round) = (0u64, 0u64, 0u64, 0);
+    let (mut codes, mut tables) = ([0u64; 9], HashSet::new());
+    println!("{what}, seed {seed}");
     while records < wanted {
-        for kind in 1..=4 {
-            for slots in SLOTS {
-                let length = dice.of(&[1usize, 17, 300, 1200, 2048]);
-                let s = stream(&mut dice, kind, slots, length);
-                let says = crate_says(&s);
-                if says != port_says(mirror, &s) {
-                    println!("the answers differ in stream {streams}; the shortest that was found:");
-                    show(mirror, &shrunk(mirror, s));
-                    std::process::exit(1);
-                }
-                says.chunks(40).for_each(|a| codes[a[0] as usize] += 1);
-                records += length as u64;
-                streams += 1;
+        for s in rounds(&mut dice, round) {
+            let says = crate_says(&s);
+            if says != port_says(mirror, &s) {
+                println!("the answers differ in stream {streams}; the shortest that was found:");
+                show(mirror, &shrunk(mirror, s));
+                std::process::exit(1);
             }
+            says.chunks(40).for_each(|a| codes[a[0] as usize] += 1);
+            records += s.records.len() as u64;
+            streams += 1;
+            tables.insert(s.table);
         }
+        round += 1;
         if records - told >= wanted / 20 {
             told = records;
             println!("{records} records in {streams} streams, no difference");
         }
     }
-    println!("{records} records in {streams} streams compared byte for byte, no difference");
+    println!("{what}: {records} records in {streams} streams compared byte for byte, no difference");
     println!("answers by code: {codes:?}");
+    if !tables.contains(&NO_TABLE) {
+        println!("tables used: {}", tables.len());
+    }
+}
+
+/// So many records of kinds 1 to 4, and by dice of its own as many of kind 5.
+pub fn compare(wanted: u64, seed: u64, mirror: &[&str]) {
+    pass("kinds 1 to 4", of_words, wanted, seed, mirror);
+    pass("kind 5", of_parts, wanted, seed, mirror);
 }

@@ -1,6 +1,7 @@
 //! The crate as the judge: the answers that it gives to a stream.
 
 use crate::streams::Stream;
+use crate::tuples::tuple_says;
 use radix_heap::{Radix, RadixHeapMap};
 use std::cell::Cell;
 use std::cmp::Reverse;
@@ -20,7 +21,7 @@ impl<K: Radix> Radix for Counted<K> {
     const RADIX_BITS: u32 = K::RADIX_BITS;
 }
 
-/// The four kinds of key, from their words and back.
+/// The kinds of key, from their words and back. Those of kinds 4 and 5 are tuples (`tuples`).
 pub trait Key: Radix + Ord + Copy {
     fn from_words(first: u64, second: u64) -> Self;
     fn words(self) -> (u64, u64);
@@ -62,14 +63,6 @@ impl<K: Key> Key for Counted<K> {
     }
 }
 
-impl Key for (u64, u64) {
-    fn from_words(first: u64, second: u64) -> Self {
-        (first, second)
-    }
-    fn words(self) -> (u64, u64) {
-        self
-    }
-}
 pub fn measured<T>(work: impl FnOnce() -> T) -> (T, u32) {
     MEASURED.with(|m| m.set(0));
     let given = work();
@@ -77,12 +70,12 @@ pub fn measured<T>(work: impl FnOnce() -> T) -> (T, u32) {
 }
 
 /// The answers that the crate gives.
-fn expected<K: Key>(stream: &Stream) -> Vec<u8> {
+pub fn expected<K: Key>(stream: &Stream) -> Vec<u8> {
     let mut heap: RadixHeapMap<Counted<K>, u64> = RadixHeapMap::new();
     let mut out = Vec::with_capacity(40 * stream.records.len());
     for r in &stream.records {
         let (mut code, mut present, mut moves, mut key, mut value) = (0u8, 0u8, 0u32, (0, 0), 0u64);
-        if !r.formed(stream.kind) {
+        if !r.formed(stream.kind, stream.table) {
             code = 5;
         } else {
             let k = Counted::<K>::from_words(r.key0, r.key1);
@@ -124,6 +117,7 @@ pub fn crate_says(stream: &Stream) -> Vec<u8> {
         1 => expected::<u64>(stream),
         2 => expected::<i64>(stream),
         3 => expected::<Reverse<u64>>(stream),
-        _ => expected::<(u64, u64)>(stream),
+        4 => expected::<(u64, u64)>(stream),
+        _ => tuple_says(stream),
     }
 }

@@ -2,12 +2,13 @@
 //!
 //! What the two share is judged by the crate: which entry a pop gives, in which order ties come, which key is refused (its
 //! panic is caught), the top, the length, and the moves, by counting the calls of `radix_similarity` that the crate itself
-//! makes while it drains. What only the port has is judged by document 01: the form of records, and a full pool.
+//! makes while it drains. What only the port has is judged by documents 01 and 02: the form of records, and a full pool.
 
 mod compare;
 mod judge;
 mod record;
 mod streams;
+mod tuples;
 
 fn fail(why: &str) -> ! {
     eprintln!("oracle: {why}");

@@ -4,7 +4,9 @@
 extern "C" {
     fn gaissomet_new(
         wanted: u32,
+        codes: *const [u8; 4],
         kind: *mut u32,
+        table: *mut [u8; 4],
         len: *mut u32,
         topped: *mut bool,
         top0: *mut u64,
@@ -23,6 +25,7 @@ extern "C" {
     ) -> u8;
     fn gaissomet_batch(
         kind: *mut u32,
+        table: *mut [u8; 4],
         len: *mut u32,
         topped: *mut bool,
         top0: *mut u64,
@@ -46,6 +49,7 @@ extern "C" {
     ) -> u8;
     fn gaissomet_examine(
         kind: u32,
+        table: *const [u8; 4],
         len: u32,
         topped: bool,
         top0: u64,
@@ -66,6 +70,7 @@ extern "C" {
 
 pub struct Port {
     kind: u32,
+    table: [u8; 4],
     len: u32,
     topped: bool,
     top0: u64,
@@ -81,9 +86,10 @@ pub struct Port {
 
 impl Port {
     /// A fresh heap.
-    pub fn new(kind: u32, slots: usize) -> Self {
+    pub fn new(kind: u32, codes: [u8; 4], slots: usize) -> Self {
         let mut p = Port {
             kind: 0,
+            table: [0; 4],
             len: 0,
             topped: false,
             top0: 0,
@@ -91,7 +97,7 @@ impl Port {
             first: [0; 131],
             last: [0; 131],
             busy: [0; 3],
-            keys: vec![0; if kind == 4 { 2 * slots } else { slots }],
+            keys: vec![0; if kind >= 4 { 2 * slots } else { slots }],
             values: vec![0; slots],
             next: vec![0; slots],
             back: vec![0; slots],
@@ -100,7 +106,9 @@ impl Port {
         let code = unsafe {
             gaissomet_new(
                 kind,
+                &codes,
                 &mut p.kind,
+                &mut p.table,
                 &mut p.len,
                 &mut p.topped,
                 &mut p.top0,
@@ -119,6 +127,7 @@ impl Port {
             )
         };
         assert!(code == 0, "a fresh heap was refused: {code}");
+        assert!((p.kind, p.table) == (kind, codes), "the kind came back as {} with {:?}", p.kind, p.table);
         p.words_are_right();
         p
     }
@@ -138,6 +147,7 @@ impl Port {
         let code = unsafe {
             gaissomet_batch(
                 &mut self.kind,
+                &mut self.table,
                 &mut self.len,
                 &mut self.topped,
                 &mut self.top0,
@@ -168,6 +178,7 @@ impl Port {
         let code = unsafe {
             gaissomet_examine(
                 self.kind,
+                &self.table,
                 self.len,
                 self.topped,
                 self.top0,

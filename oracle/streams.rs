@@ -37,23 +37,55 @@ impl Record {
         }
     }
 
-    /// Document 01: known operation, unused fields zero, the second word zero in kinds 1 to 3.
-    pub fn formed(&self, kind: u32) -> bool {
-        let slim = kind == 4 || self.key1 == 0;
+    /// Document 01: known operation, unused fields zero, the second word zero in kinds 1 to 3. Document 02: in kind 5 no bit
+    /// above the parts' total.
+    #[inline]
+    pub fn formed(&self, kind: u32, table: Table) -> bool {
+        let proper = match kind {
+            4 => true,
+            5 => number(self.key0, self.key1).leading_zeros() >= 128 - total(table),
+            _ => self.key1 == 0,
+        };
         self.rest == 0
             && match self.op {
-                1 => slim,
-                5 => slim && self.value == 0,
+                1 => proper,
+                5 => proper && self.value == 0,
                 2 | 3 | 4 | 6 | 7 => self.key0 == 0 && self.key1 == 0 && self.value == 0,
                 _ => false,
             }
     }
 }
 
+/// The codes of a mixed key's parts, high part first: a part's bits, plus 0 unsigned, 1 signed, 2 reversed; 0 for no part.
+pub type Table = [u8; 4];
+
+/// The table of kinds 1 to 4.
+pub const NO_TABLE: Table = [0; 4];
+
+/// How many bits the part with this code has.
+fn bits(code: u8) -> u32 {
+    code as u32 / 8 * 8
+}
+
+#[inline]
+fn total(table: Table) -> u32 {
+    table.iter().map(|&code| bits(code)).sum()
+}
+
+/// The number that two words are, and the words of a number.
+pub fn number(first: u64, second: u64) -> u128 {
+    (first as u128) << 64 | second as u128
+}
+
+pub fn words(number: u128) -> (u64, u64) {
+    ((number >> 64) as u64, number as u64)
+}
+
 /// A stream: a fresh heap of a kind with so many slots, and the records that it is given.
 #[derive(Clone)]
 pub struct Stream {
     pub kind: u32,
+    pub table: Table,
     pub slots: u32,
     pub records: Vec<Record>,
 }
@@ -78,50 +110,112 @@ fn word(dice: &mut Dice, style: u64, time: u64) -> u64 {
     }
 }
 
+/// A part of so many bits: a narrow range (many ties), a time that rises or falls, any number, an extreme, or any magnitude.
+fn part(dice: &mut Dice, bits: u32, style: u64, time: u64) -> u64 {
+    let (greatest, sign) = (u64::MAX >> (64 - bits), 1 << (bits - 1));
+    greatest
+        & match style {
+            0 => dice.below(4),
+            1 => time.wrapping_add(dice.below(64)),
+            2 => time.wrapping_add(dice.below(64)).wrapping_neg(),
+            3 => dice.next(),
+            4 => dice.of(&[0, 1, greatest, greatest - 1, sign, sign - 1, sign + 1, 1 << (bits / 2)]),
+            _ => (greatest & dice.next()) >> dice.below(bits as u64),
+        }
+}
+
+/// How a stream's keys are drawn: by words, or part by part in a style for each place, which may be another one each time.
+enum Keys {
+    Words { kind: u32, style: u64 },
+    Parts { table: Table, styles: [u64; 4] },
+}
+
+impl Keys {
+    fn new(dice: &mut Dice, kind: u32, table: Table) -> Self {
+        if table == NO_TABLE {
+            return Keys::Words { kind, style: dice.below(5) };
+        }
+        Keys::Parts { table, styles: [(); 4].map(|_| dice.below(7)) }
+    }
+
+    fn next(&self, dice: &mut Dice, time: u64) -> (u64, u64) {
+        match *self {
+            Keys::Words { kind, style } => {
+                let first = word(dice, style, time);
+                let second = dice.below(5);
+                (first, if kind == 4 { word(dice, second, time) } else { 0 })
+            }
+            Keys::Parts { table, styles } => packed(dice, table, styles, time),
+        }
+    }
+
+    /// A key that its kind does not have, if there is one: the second word 1, or a bit above the parts' total.
+    fn stray(&self, dice: &mut Dice, (first, second): (u64, u64)) -> (u64, u64) {
+        match *self {
+            Keys::Parts { table, .. } if total(table) < 128 => {
+                let above = 128 - total(table);
+                let any = dice.below(above as u64) as u32;
+                let bit = 1 << (127 - dice.of(&[above - 1, above - 1, any, 0]));
+                words(bit | dice.of(&[0, number(first, second)]))
+            }
+            _ => (first, 1),
+        }
+    }
+}
+
+/// A mixed key, packed high part first.
+fn packed(dice: &mut Dice, table: Table, styles: [u64; 4], time: u64) -> (u64, u64) {
+    let mut key = 0;
+    for (&code, style) in table.iter().zip(styles).filter(|(code, _)| **code != 0) {
+        let style = if style == 6 { dice.below(6) } else { style };
+        key = key << bits(code) | part(dice, bits(code), style, time) as u128;
+    }
+    words(key)
+}
+
 /// A stream of records of every sort, on a fresh heap.
-pub fn stream(dice: &mut Dice, kind: u32, slots: u32, length: usize) -> Stream {
-    let style = dice.below(5);
+pub fn stream(dice: &mut Dice, kind: u32, table: Table, slots: u32, length: usize) -> Stream {
+    let keys = Keys::new(dice, kind, table);
     let pushes = dice.of(&[35, 50, 65, 80]);
     let mut time = dice.below(1 << 20);
     let mut records = Vec::with_capacity(length);
     for _ in 0..length {
         time += dice.below(3);
-        let key0 = word(dice, style, time);
-        let second = dice.below(5);
-        let key1 = if kind == 4 { word(dice, second, time) } else { 0 };
+        let (key0, key1) = keys.next(dice, time);
         let value = dice.next() >> dice.below(64);
         let bare = |op| Record { op, rest: 0, key0: 0, key1: 0, value: 0 };
+        let keyed = |op, (key0, key1), value| Record { op, rest: 0, key0, key1, value };
         let roll = dice.below(100);
         records.push(if roll < pushes {
-            Record { op: 1, rest: 0, key0, key1, value }
+            keyed(1, (key0, key1), value)
         } else if roll < 92 {
             bare(2)
         } else {
             match dice.below(16) {
                 0 | 1 => bare(3),
                 2 => bare(4),
-                3 => Record { op: 5, rest: 0, key0, key1, value: 0 },
+                3 => keyed(5, (key0, key1), 0),
                 4 | 5 => bare(6),
                 6 | 7 => bare(7),
-                8 => Record { op: 1, rest: 0, key0, key1: 1, value },
+                8 => keyed(1, keys.stray(dice, (key0, key1)), value),
                 9 => Record { value: 1, ..bare(dice.of(&[2, 3, 4, 6, 7])) },
                 10 => Record { key0: key0 | 1, ..bare(dice.of(&[2, 3, 4, 6, 7])) },
                 11 => Record { key1: 1, ..bare(dice.of(&[2, 3, 4, 6, 7])) },
                 12 => Record { rest: 1 << (8 * (value % 7)), ..bare(dice.of(&[2, 3, 6, 7])) },
                 13 => bare(dice.of(&[0, 8, 9, 128, 255])),
-                14 => Record { op: 5, rest: 0, key0, key1, value: 1 },
-                _ => Record { op: 5, rest: 0, key0, key1: 1, value: 0 },
+                14 => keyed(5, (key0, key1), 1),
+                _ => keyed(5, keys.stray(dice, (key0, key1)), 0),
             }
         });
     }
-    Stream { kind, slots, records }
+    Stream { kind, table, slots, records }
 }
 
-/// Pushes until the pool is full, one more, and then `more` records of every sort.
+/// Pushes until the pool is full, one more, and then `more` records of every sort. For kinds 1 to 4.
 pub fn full(dice: &mut Dice, kind: u32, slots: u32, more: usize) -> Stream {
     let style = dice.below(5);
     let time = dice.below(1 << 20);
-    let mut s = stream(dice, kind, slots, more);
+    let mut s = stream(dice, kind, NO_TABLE, slots, more);
     let pushes = (0..=slots as u64).map(|i| {
         let key1 = if kind == 4 { word(dice, style, time) } else { 0 };
         Record { op: 1, rest: 0, key0: word(dice, style, time + i), key1, value: i }
@@ -131,12 +225,23 @@ pub fn full(dice: &mut Dice, kind: u32, slots: u32, more: usize) -> Stream {
 }
 
 /// Every operation with a lone 1 in each of bytes 1 to 7, and in each word.
-pub fn lone(kind: u32, slots: u32) -> Stream {
+pub fn lone(kind: u32, table: Table, slots: u32) -> Stream {
     let mut records = Vec::new();
     for op in 1..=7 {
         let zero = Record { op, rest: 0, key0: 0, key1: 0, value: 0 };
         records.extend((0..7).map(|byte| Record { rest: 1 << (8 * byte), ..zero }));
         records.extend([Record { key0: 1, ..zero }, Record { key1: 1, ..zero }, Record { value: 1, ..zero }]);
     }
-    Stream { kind, slots, records }
+    Stream { kind, table, slots, records }
+}
+
+/// For kind 5: a push of each lone bit of the two words, those above the total too, and then so many pops.
+pub fn each_bit(table: Table, slots: u32, pops: usize) -> Stream {
+    let mut records = Vec::new();
+    for bit in 0..128 {
+        let (key0, key1) = words(1 << bit);
+        records.push(Record { op: 1, rest: 0, key0, key1, value: bit });
+    }
+    records.extend([Record { op: 2, rest: 0, key0: 0, key1: 0, value: 0 }].repeat(pops));
+    Stream { kind: 5, table, slots, records }
 }

@@ -10,13 +10,16 @@ mod judge;
 mod port;
 #[allow(dead_code)]
 mod streams;
+#[allow(dead_code)]
+mod tuples;
 
 use judge::{measured, Counted, Key};
 use port::Port;
 use radix_heap::RadixHeapMap;
 use std::cmp::Reverse;
 use std::time::{Duration, Instant};
-use streams::{Dice, Record};
+use streams::{Dice, Record, Table, NO_TABLE};
+use tuples::Tuple;
 
 const SLOTS: usize = 4096;
 const BATCHES: usize = 1000;
@@ -52,6 +55,8 @@ struct Form {
 const TIME: Form = Form { name: "kind 3", words: |due| (due, 0) };
 const PAIR_BY_FIRST: Form = Form { name: "kind 4, different first words", words: |due| (u64::MAX - due, 0) };
 const PAIR_BY_SECOND: Form = Form { name: "kind 4, equal first words", words: |due| (0, u64::MAX - due) };
+/// The low byte is the reversed priority, the rest road and day.
+const DESK: Form = Form { name: "kind 5, day, road and reversed priority", words: |due| (0, (!due ^ 255) & (u64::MAX >> 8)) };
 
 /// The batches of a shape, one after the other; the first has the entries that are held before.
 #[derive(Clone)]
@@ -87,6 +92,7 @@ impl Batches {
 /// A key of the crate that may tell how many moves there were. As a user of the crate has it, nothing is counted.
 trait Timed: Key {
     const KIND: u32;
+    const TABLE: Table = NO_TABLE;
     fn moves<T>(work: impl FnOnce() -> T) -> (T, u32) {
         (work(), 0)
     }
@@ -100,8 +106,14 @@ impl Timed for (u64, u64) {
     const KIND: u32 = 4;
 }
 
+impl Timed for (u32, u16, Reverse<u8>) {
+    const KIND: u32 = 5;
+    const TABLE: Table = <Self as Tuple>::TABLE;
+}
+
 impl<K: Timed> Timed for Counted<K> {
     const KIND: u32 = K::KIND;
+    const TABLE: Table = K::TABLE;
     fn moves<T>(work: impl FnOnce() -> T) -> (T, u32) {
         measured(work)
     }
@@ -119,7 +131,7 @@ fn served<K: Timed>(heap: &mut RadixHeapMap<K, u64>, r: &Record) -> (u8, u8, u32
     let bare = |code, moves| (code, 0, moves, (0, 0), 0);
     let key = K::from_words(r.key0, r.key1);
     match r.op {
-        _ if !r.formed(K::KIND) => bare(5, 0),
+        _ if !r.formed(K::KIND, K::TABLE) => bare(5, 0),
         1 if heap.top().is_some_and(|top| key > top) => bare(6, 0),
         1 if heap.len() == SLOTS => bare(7, 0),
         1 => {
@@ -180,7 +192,7 @@ fn formless(answers: &[u8]) -> u64 {
 /// moves too.
 fn compared<K: Timed>(mut batches: Batches) -> (Vec<u64>, u64) {
     let mut heap: RadixHeapMap<Counted<K>, u64> = RadixHeapMap::new();
-    let mut port = Port::new(K::KIND, SLOTS);
+    let mut port = Port::new(K::KIND, K::TABLE, SLOTS);
     let (mut records, mut each, mut whole) = (Vec::new(), Vec::new(), 0);
     let (mut a, mut b) = (vec![0; 40 * RECORDS], vec![0; 40 * RECORDS]);
     let mut moves = 0;
@@ -224,13 +236,13 @@ fn crate_pass<K: Timed>(batches: Batches, expected: &[u64]) -> Vec<Duration> {
 }
 
 fn port_pass<K: Timed>(batches: Batches, expected: &[u64]) -> Vec<Duration> {
-    let mut port = Port::new(K::KIND, SLOTS);
+    let mut port = Port::new(K::KIND, K::TABLE, SLOTS);
     pass(batches, expected, |records, answers| port.batch(records, answers))
 }
 
 /// The examination by itself, on the pool as each batch finds it.
 fn examination_pass<K: Timed>(batches: Batches, expected: &[u64]) -> Vec<Duration> {
-    let (mut port, mut times) = (Port::new(K::KIND, SLOTS), Vec::new());
+    let (mut port, mut times) = (Port::new(K::KIND, K::TABLE, SLOTS), Vec::new());
     pass(batches, expected, |records, answers| {
         let start = Instant::now();
         port.examine();
@@ -311,7 +323,7 @@ fn singles<K: Timed>(form: Form) {
     let (mut served, mut examined) = (Vec::new(), Vec::new());
     let mut answers = [0; 40 * FEW_HELD];
     for _ in 0..PASSES {
-        let mut port = Port::new(K::KIND, FEW_SLOTS);
+        let mut port = Port::new(K::KIND, K::TABLE, FEW_SLOTS);
         port.batch(first, &mut answers);
         served.push(records.chunks_exact(32 * RECORDS).map(|some| clocked(|| one_at_a_time(&mut port, some))).collect::<Vec<_>>());
         examined.push((0..SINGLES / RECORDS).map(|_| clocked(|| (0..RECORDS).for_each(|_| port.examine()))).collect::<Vec<_>>());
@@ -343,7 +355,9 @@ fn main() {
         for form in [PAIR_BY_FIRST, PAIR_BY_SECOND] {
             assert!(timed::<(u64, u64)>(shape, form) == whole, "{}: values, moves or lengths differ from kind 3", form.name);
         }
+        assert!(timed::<(u32, u16, Reverse<u8>)>(shape, DESK) == whole, "{}: values, moves or lengths differ from kind 3", DESK.name);
     }
     singles::<Reverse<u64>>(TIME);
     singles::<(u64, u64)>(PAIR_BY_FIRST);
+    singles::<(u32, u16, Reverse<u8>)>(DESK);
 }
