@@ -8,7 +8,7 @@ use lib.Dec.{eqb, ltb}
 use Rattle.rule.specs.Width.{distance}
 use Rattle.keys.specs.declared.kind.Kind.{Kind}
 use Rattle.keys.specs.declared.packing.Parts.{Parts}
-use Rattle.keys.specs.Table.{bare}
+use Rattle.keys.specs.Table.{bare, tableOf}
 use Rattle.keys.specs.Ordered.{width, ordered, wellFormed}
 use Rattle.keys.specs.Packing.{partsFit, packedOf, partsOf}
 use Rattle.keys.proofs.ExamplesTable.{all, none, mixed}
@@ -99,6 +99,15 @@ job-packed = refl
 pub job-unpacked : partsOf (job .table) (at 1 2 3) ≡ line 1 2 3 0
 unfolding partsOf
 job-unpacked = refl
+
+-- of what does not fit no bit is packed, and a table that breaks its limits has no parts
+pub none-packed : (eqb (packedOf (job .table) (line 1 (2 ^ 16) 3 0)) 0 && eqb (packedOf (tableOf 8 0 8 0) (line 1 0 1 0)) 0) ≡ true
+unfolding packedOf
+none-packed = refl
+
+pub none-unpacked : partsOf (tableOf 8 0 8 0) (2 ^ 16 + 1) ≡ line 0 0 0 0
+unfolding partsOf
+none-unpacked = refl
 
 pub job-refused : none (partsFit (job .table) (line 1 (2 ^ 16) 3 0) ∷ partsFit (job .table) (line 1 2 3 1) ∷ []) ≡ true
 unfolding partsFit

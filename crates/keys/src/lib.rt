@@ -73,7 +73,8 @@ pub fn distance(kind: Kind, a0: u64, a1: u64, b0: u64, b1: u64) -> u32
     distance_by(kind, kind_masks(kind), a0, a1, b0, b1)
 }
 
-// A key of one word has second word 0, and a mixed key no bit above its total: else code 5.
+// A key of one word has second word 0, and a mixed key no bit above its total: else code 5. Masks are
+// built in kind 5 alone, so that a record of another kind does not pay for them.
 pub fn well_formed(kind: Kind, key0: u64, key1: u64) -> bool
     ensures { λ r. ⌜ r ≡ wellFormed kind key0 key1 ⌝ }
 {
