@@ -42,10 +42,11 @@ module _ (p : ℕ) (old : List ℕ) (low : p ≤ length old) where
 
 -- ---- the loop
 
--- At record i: what is left to do from here is what there was to do. Lengths stay.
+-- At record i: what is left to do from here is what there was to do. The kind and lengths stay.
 pub record Turn (n : ℕ) (bs : List ℕ) (w₀ : World) (as₀ : List ℕ) (w : World) (as′ : List ℕ) (i : ℕ) : Type 0 where
   pub turns : i ≤ n
   pub whole : Whole w
+  pub kind : w .head .kind ≡ w₀ .head .kind
   pub keys : length (w .keys) ≡ length (w₀ .keys)
   pub values : length (w .values) ≡ length (w₀ .values)
   pub nexts : length (w .links .next) ≡ length (w₀ .links .next)
@@ -59,7 +60,7 @@ pub served-anew : {g h : Head} {k : Links} {keys values : List ℕ} {code moves 
 served-anew {g} {h} {k} {keys} {values} {code} {moves} {a} {b} {v} {n} {present} e d = ap (λ (x : Head). answered code (world x k keys values) moves present a b v n) e ∙ d
 
 pub turn-first : (n : ℕ) (bs : List ℕ) (w : World) (as′ : List ℕ) → Whole w → Turn n bs w as′ w as′ 0
-turn-first n bs w as′ h = record { turns = omega arith; whole = h; keys = refl; values = refl; nexts = refl; backs = refl; answers = refl; same = rw (sub-zero n) }
+turn-first n bs w as′ h = record { turns = omega arith; whole = h; kind = refl; keys = refl; values = refl; nexts = refl; backs = refl; answers = refl; same = rw (sub-zero n) }
 
 lasting : {w u : World} → Whole w → Whole u → Kept w u → (length (u .keys) ≡ length (w .keys)) × (length (u .values) ≡ length (w .values)) × (length (u .links .back) ≡ length (w .links .back))
 lasting h m k = (
@@ -82,6 +83,7 @@ module _ {n : ℕ} {bs : List ℕ} {w₀ : World} {as₀ : List ℕ} {w : World}
       record {
         turns = omega arith;
         whole = h;
+        kind = k .kind ∙ t .kind;
         keys = e .0 ∙ t .keys;
         values = e .1 ∙ t .values;
         nexts = k .slots ∙ t .nexts;

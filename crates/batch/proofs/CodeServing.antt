@@ -69,6 +69,10 @@ ready-pooled {h} r = (r .fine .small, record { words′ = ready-words (r .room) 
 
 -- ---- the operations
 
+pub constrain-done : (w : World) {m : Moved} → m ≡ constrainCore (w .head) (w .links) (w .keys) → answered 0 (movedTo w m) (m .moves) false 0 0 0 0 ≡ constrainedCore w
+unfolding constrainedCore done
+constrain-done w e = ap (λ (m : Moved). done (movedTo w m) (m .moves)) e
+
 pub clear-fresh : (w : World) {u : World} → u ≡ freshCore (w .head .kind) (length (w .links .next)) false 0 0 → answered 0 u 0 false 0 0 0 0 ≡ clearCore w
 unfolding clearCore done
 clear-fresh w e = ap (λ (u : World). done u 0) e
@@ -91,9 +95,9 @@ module _ (w : World) (r : Record) where
   unfolding operatedCore
   op-pop e p = p ∙ rw e
 
-  pub op-constrain : {m : Moved} → r .op ≡ 3 → m ≡ constrainCore (w .head) (w .links) (w .keys) → answered 0 (movedTo w m) (m .moves) false 0 0 0 0 ≡ operatedCore w r
-  unfolding operatedCore constrainedCore done
-  op-constrain e p = ap (λ (m : Moved). done (movedTo w m) (m .moves)) p ∙ rw e
+  pub op-constrain : {o : Outcome} → r .op ≡ 3 → o ≡ constrainedCore w → o ≡ operatedCore w r
+  unfolding operatedCore
+  op-constrain e p = p ∙ rw e
 
   pub op-clear : {o : Outcome} → r .op ≡ 4 → o ≡ clearCore w → o ≡ operatedCore w r
   unfolding operatedCore

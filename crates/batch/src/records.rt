@@ -1,9 +1,11 @@
 // A record: the operation, two key words and a value.
 use crate::bytes::read_word;
 use keys::Kind;
+use keys::Masks;
 ghost use mathlib.Core.Path.{_≡_};
 ghost use Prim.Native.Nat.{_+_, _≤_};
 ghost use lib.ListN.{length};
+ghost use Rattle.keys.specs.Masks.{Reads};
 ghost use Rattle.batch.specs.Records.{recordAt, bare, fieldsFit, formed};
 
 // `rest` says whether bytes 1 to 7 are zero.
@@ -38,23 +40,25 @@ fn is_bare(r: Record) -> bool
 }
 
 // Are the fields that the operation does not use zero, and is the operation known?
-fn fields_fit(kind: Kind, r: Record) -> bool
+fn fields_fit(kind: Kind, masks: Masks, r: Record) -> bool
+    requires { ⌜ Reads masks kind ⌝ }
     ensures { λ r′. ⌜ r′ ≡ fieldsFit kind r ⌝ }
 {
     let op = r.op;
     match op {
-        1 => keys::well_formed(kind, r.key0, r.key1),
-        5 => keys::well_formed(kind, r.key0, r.key1) && r.value == 0,
+        1 => keys::well_formed_by(kind, masks, r.key0, r.key1),
+        5 => keys::well_formed_by(kind, masks, r.key0, r.key1) && r.value == 0,
         2 | 3 | 4 | 6 | 7 => is_bare(r),
         _ => false,
     }
 }
 
-pub fn is_formed(kind: Kind, r: Record) -> bool
+pub fn is_formed(kind: Kind, masks: Masks, r: Record) -> bool
+    requires { ⌜ Reads masks kind ⌝ }
     ensures { λ r′. ⌜ r′ ≡ formed kind r ⌝ }
 {
     if r.rest {
-        return fields_fit(kind, r);
+        return fields_fit(kind, masks, r);
     }
     false
 }

@@ -38,11 +38,12 @@ fn serve_all(
     requires { ⌜ 40 * n ≤ length (now answers) ⌝ }
     ensures { λ r. ⌜ going (world r (links (now (first .exit)) (now (last .exit)) (now (next .exit)) (now (back .exit)) (now (busy .exit))) (now (keys .exit)) (now (values .exit))) (now (answers .exit)) ≡ ranFrom n 0 (now (records .entry)) (world head (links (now (first .entry)) (now (last .entry)) (now (next .entry)) (now (back .entry)) (now (busy .entry))) (now (keys .entry)) (now (values .entry))) (now (answers .entry)) ⌝ }
 {
+    let masks = keys::kind_masks(head.kind);
     let mut h = head;
     let mut i: usize = 0;
     while i < n {
         let r = read(records, 32 * i);
-        let s = serve(h, first, last, busy, keys, values, next, back, r);
+        let s = serve(h, masks, first, last, busy, keys, values, next, back, r);
         let served = s.head;
         h = served.anew();
         write(

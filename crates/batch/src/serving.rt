@@ -1,18 +1,21 @@
-// One record served, on references.
+// One record served, on references. The masks are those of the kind.
 use crate::records::Record;
 use crate::records::is_formed;
 use keys::Kind;
+use keys::Masks;
 use pool::Head;
 ghost use mathlib.Core.Path.{_≡_};
 ghost use mathlib.Core.Bool.{false};
-ghost use Prim.Native.Nat.{_<_, _^_};
+ghost use mathlib.Core.List.{List};
+ghost use Prim.Native.Nat.{ℕ, _<_, _^_};
 ghost use lib.ListN.{length};
+ghost use Rattle.keys.specs.Masks.{Reads};
 ghost use Rattle.pool.specs.World.{links, world};
-ghost use Rattle.pool.specs.Fine.{Ready};
+ghost use Rattle.pool.specs.Fine.{Fine, Room, Ready};
 ghost use Rattle.pool.specs.Core.{freshCore};
 ghost use Rattle.engine.specs.Outcome.{answered};
 ghost use Rattle.engine.specs.Core.{pushCore, popCore, clearCore, clearToCore};
-ghost use Rattle.batch.specs.Core.{Pooled, readOnly, operatedCore, servedCore};
+ghost use Rattle.batch.specs.Core.{Pooled, readOnly, constrainedCore, operatedCore, servedCore};
 
 // What a record gives, and the head of the state afterwards.
 pub struct Reply {
@@ -74,6 +77,7 @@ fn reset(
 // A record whose fields are in order.
 fn operate(
     head: Head,
+    masks: Masks,
     first: &mut [u32; 131],
     last: &mut [u32; 131],
     busy: &mut [u64; 3],
@@ -83,20 +87,19 @@ fn operate(
     back: &mut [u32],
     r: Record,
 ) -> Reply
+    requires { ⌜ Reads masks (head .kind) ⌝ }
     requires { ⌜ Ready head (links (now first) (now last) (now next) (now back) (now busy)) (now keys) (now values) ⌝ }
     ensures { λ s. ⌜ answered (s .code) (world (s .head) (links (now (first .exit)) (now (last .exit)) (now (next .exit)) (now (back .exit)) (now (busy .exit))) (now (keys .exit)) (now (values .exit))) (s .moves) (s .present) (s .key0) (s .key1) (s .value) (s .count) ≡ operatedCore (world head (links (now (first .entry)) (now (last .entry)) (now (next .entry)) (now (back .entry)) (now (busy .entry))) (now (keys .entry)) (now (values .entry))) r ⌝ }
 {
     let op = r.op;
     if op == 1 {
-        return push(head, first, last, busy, keys, values, next, back, r);
+        return push(head, masks, first, last, busy, keys, values, next, back, r);
     }
     if op == 2 {
-        return pop(head, first, last, busy, keys, values, next, back);
+        return pop(head, masks, first, last, busy, keys, values, next, back);
     }
     if op == 3 {
-        let m = engine::constrain(head, first, last, busy, keys, next, back);
-        let topped = m.head;
-        return bare(0, topped, m.moves);
+        return constrain(head, masks, first, last, busy, keys, next, back);
     }
     if op == 4 {
         return clear(head, first, last, busy, keys, values, next, back);
@@ -104,6 +107,7 @@ fn operate(
     if op == 5 {
         return clear_to(
             head,
+            masks,
             first,
             last,
             busy,
@@ -121,6 +125,7 @@ fn operate(
 // The record's key and value.
 fn push(
     head: Head,
+    masks: Masks,
     first: &mut [u32; 131],
     last: &mut [u32; 131],
     busy: &mut [u64; 3],
@@ -130,11 +135,13 @@ fn push(
     back: &mut [u32],
     r: Record,
 ) -> Reply
+    requires { ⌜ Reads masks (head .kind) ⌝ }
     requires { ⌜ Ready head (links (now first) (now last) (now next) (now back) (now busy)) (now keys) (now values) ⌝ }
     ensures { λ s. ⌜ answered (s .code) (world (s .head) (links (now (first .exit)) (now (last .exit)) (now (next .exit)) (now (back .exit)) (now (busy .exit))) (now (keys .exit)) (now (values .exit))) (s .moves) (s .present) (s .key0) (s .key1) (s .value) (s .count) ≡ pushCore (world head (links (now (first .entry)) (now (last .entry)) (now (next .entry)) (now (back .entry)) (now (busy .entry))) (now (keys .entry)) (now (values .entry))) (r .key0) (r .key1) (r .value) ⌝ }
 {
     let e = engine::push(
         head,
+        masks,
         first,
         last,
         busy,
@@ -152,6 +159,7 @@ fn push(
 
 fn pop(
     head: Head,
+    masks: Masks,
     first: &mut [u32; 131],
     last: &mut [u32; 131],
     busy: &mut [u64; 3],
@@ -160,10 +168,11 @@ fn pop(
     next: &mut [u32],
     back: &mut [u32],
 ) -> Reply
+    requires { ⌜ Reads masks (head .kind) ⌝ }
     requires { ⌜ Ready head (links (now first) (now last) (now next) (now back) (now busy)) (now keys) (now values) ⌝ }
     ensures { λ s. ⌜ answered (s .code) (world (s .head) (links (now (first .exit)) (now (last .exit)) (now (next .exit)) (now (back .exit)) (now (busy .exit))) (now (keys .exit)) (now (values .exit))) (s .moves) (s .present) (s .key0) (s .key1) (s .value) (s .count) ≡ popCore (world head (links (now (first .entry)) (now (last .entry)) (now (next .entry)) (now (back .entry)) (now (busy .entry))) (now (keys .entry)) (now (values .entry))) ⌝ }
 {
-    let t = engine::pop(head, first, last, busy, keys, values, next, back);
+    let t = engine::pop(head, masks, first, last, busy, keys, values, next, back);
     let left = t.head;
     Reply {
         code: t.code,
@@ -175,6 +184,26 @@ fn pop(
         value: t.value,
         count: 0,
     }
+}
+
+fn constrain(
+    head: Head,
+    masks: Masks,
+    first: &mut [u32; 131],
+    last: &mut [u32; 131],
+    busy: &mut [u64; 3],
+    keys: &[u64],
+    next: &mut [u32],
+    back: &mut [u32],
+) -> Reply
+    requires { ⌜ Reads masks (head .kind) ⌝ }
+    requires { ⌜ Fine (links (now first) (now last) (now next) (now back) (now busy)) ⌝ }
+    requires { ⌜ Room (head .kind) (length (now next)) (now keys) ⌝ }
+    ensures { λ s. ⌜ ((values : List ℕ) → answered (s .code) (world (s .head) (links (now (first .exit)) (now (last .exit)) (now (next .exit)) (now (back .exit)) (now (busy .exit))) (now (keys .entry)) values) (s .moves) (s .present) (s .key0) (s .key1) (s .value) (s .count) ≡ constrainedCore (world head (links (now (first .entry)) (now (last .entry)) (now (next .entry)) (now (back .entry)) (now (busy .entry))) (now (keys .entry)) values)) ⌝ }
+{
+    let m = engine::constrain(head, masks, first, last, busy, keys, next, back);
+    let topped = m.head;
+    bare(0, topped, m.moves)
 }
 
 fn clear(
@@ -208,6 +237,7 @@ fn clear(
 
 fn clear_to(
     head: Head,
+    masks: Masks,
     first: &mut [u32; 131],
     last: &mut [u32; 131],
     busy: &mut [u64; 3],
@@ -218,10 +248,11 @@ fn clear_to(
     key0: u64,
     key1: u64,
 ) -> Reply
+    requires { ⌜ Reads masks (head .kind) ⌝ }
     requires { ⌜ Ready head (links (now first) (now last) (now next) (now back) (now busy)) (now keys) (now values) ⌝ }
     ensures { λ s. ⌜ answered (s .code) (world (s .head) (links (now (first .exit)) (now (last .exit)) (now (next .exit)) (now (back .exit)) (now (busy .exit))) (now (keys .exit)) (now (values .exit))) (s .moves) (s .present) (s .key0) (s .key1) (s .value) (s .count) ≡ clearToCore (world head (links (now (first .entry)) (now (last .entry)) (now (next .entry)) (now (back .entry)) (now (busy .entry))) (now (keys .entry)) (now (values .entry))) key0 key1 ⌝ }
 {
-    let told = engine::key_code(head.kind, key0, key1);
+    let told = engine::key_code(head.kind, masks, key0, key1);
     if told != 0 {
         return bare(told, head, 0);
     }
@@ -271,6 +302,7 @@ fn read_only(head: Head, op: u8) -> Reply
 
 pub fn serve(
     head: Head,
+    masks: Masks,
     first: &mut [u32; 131],
     last: &mut [u32; 131],
     busy: &mut [u64; 3],
@@ -280,11 +312,12 @@ pub fn serve(
     back: &mut [u32],
     r: Record,
 ) -> Reply
+    requires { ⌜ Reads masks (head .kind) ⌝ }
     requires { ⌜ Ready head (links (now first) (now last) (now next) (now back) (now busy)) (now keys) (now values) ⌝ }
     ensures { λ s. ⌜ answered (s .code) (world (s .head) (links (now (first .exit)) (now (last .exit)) (now (next .exit)) (now (back .exit)) (now (busy .exit))) (now (keys .exit)) (now (values .exit))) (s .moves) (s .present) (s .key0) (s .key1) (s .value) (s .count) ≡ servedCore (world head (links (now (first .entry)) (now (last .entry)) (now (next .entry)) (now (back .entry)) (now (busy .entry))) (now (keys .entry)) (now (values .entry))) r ⌝ }
 {
-    if is_formed(head.kind, r) {
-        return operate(head, first, last, busy, keys, values, next, back, r);
+    if is_formed(head.kind, masks, r) {
+        return operate(head, masks, first, last, busy, keys, values, next, back, r);
     }
     bare(pool::MALFORMED, head, 0)
 }

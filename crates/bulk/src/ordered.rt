@@ -44,8 +44,10 @@ fn push_one(
     let mut first = state.first;
     let mut last = state.last;
     let mut busy = state.busy;
+    let masks = keys::kind_masks(state.head.kind);
     let p = engine::push(
         state.head,
+        masks,
         &mut first,
         &mut last,
         &mut busy,

@@ -51,7 +51,7 @@ pub fn test_one(g: Gauge, i: usize, key0: u64, key1: u64) -> Gauge
         return g;
     }
     let head = g.head;
-    let code = engine::push_code(head, g.left, key0, key1);
+    let code = engine::push_code(head, keys::kind_masks(head.kind), g.left, key0, key1);
     if code != 0 {
         return Gauge {
             head,

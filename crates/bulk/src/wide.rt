@@ -69,6 +69,7 @@ fn push_wide(
     while i < n {
         let r = engine::push(
             grown,
+            keys::kind_masks(grown.kind),
             first,
             last,
             busy,

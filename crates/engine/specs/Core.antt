@@ -1,6 +1,6 @@
 -- What the calls do on an examined pool, as their code does it: tests and then the pool's steps, store by store.
 -- Contracts of inner functions cite these; a reader of the promises need not.
-use mathlib.Core.Bool.{true, false, cond}
+use mathlib.Core.Bool.{Bool, true, false, cond}
 use mathlib.Core.List.{List}
 use Prim.Native.Nat.{ℕ, zero, suc, _+_, _-_}
 use lib.Dec.{eqb}
@@ -11,8 +11,17 @@ use Rattle.keys.specs.declared.kind.Kind.{Kind}
 use Rattle.pool.specs.declared.state.Head.{Head}
 use Rattle.pool.specs.World.{waitingChain, freeChain, World, blank, keyWord0, keyWord1, storeKey, topOf, within}
 use Rattle.pool.specs.Examine.{fitting}
-use Rattle.pool.specs.Core.{Moved, movedTo, Popped, entered, readied, popTail, freshCore}
+use Rattle.pool.specs.Core.{Moved, movedTo, Popped, busyFrom, entered, readied, popTail, freshCore}
 use Rattle.engine.specs.Outcome.{Outcome, Listing, listing, roomFor, refused, done, given, unless, keyCode}
+
+-- ---- constrain
+
+-- the chain that a constrain drains: with a top the first busy bucket, and without one the waiting chain. 0 for none, as bucket 0
+-- is never drained.
+unfoldable pub toDrain : Bool → List ℕ → ℕ
+unfolding busyFrom
+toDrain false first = cond (eqb (getD first waitingChain 0) 0) 0 waitingChain
+toDrain true first = let b : ℕ = busyFrom waitingChain first 0 in cond (eqb b waitingChain) 0 b
 
 -- ---- push and pop
 

@@ -1,11 +1,14 @@
-// Pop: the tail of bucket 0 is given out; if that bucket is empty, after one constrain.
+// Pop: the tail of bucket 0 is given out; if that bucket is empty, after one constrain. The masks are
+// those of the kind.
 use crate::constraining::Shifted;
 use crate::constraining::constrain;
+use keys::Masks;
 use pool::Head;
 ghost use mathlib.Core.Path.{_≡_};
 ghost use Prim.Native.Nat.{_<_};
 ghost use lib.Dec.{eqb};
 ghost use lib.ListN.{length, getD};
+ghost use Rattle.keys.specs.Masks.{Reads};
 ghost use Rattle.pool.specs.World.{links, world};
 ghost use Rattle.pool.specs.Fine.{Fine, Room, Ready};
 ghost use Rattle.pool.specs.Core.{shifted, readied, popped, popTail};
@@ -24,6 +27,7 @@ pub struct Taken {
 // One constrain, if bucket 0 is empty.
 fn ready(
     head: Head,
+    masks: Masks,
     first: &mut [u32; 131],
     last: &mut [u32; 131],
     busy: &mut [u64; 3],
@@ -31,12 +35,13 @@ fn ready(
     next: &mut [u32],
     back: &mut [u32],
 ) -> Shifted
+    requires { ⌜ Reads masks (head .kind) ⌝ }
     requires { ⌜ Fine (links (now first) (now last) (now next) (now back) (now busy)) ⌝ }
     requires { ⌜ Room (head .kind) (length (now next)) (now keys) ⌝ }
     ensures { λ r. ⌜ shifted (r .head) (links (now (first .exit)) (now (last .exit)) (now (next .exit)) (now (back .exit)) (now (busy .exit))) (r .moves) ≡ readied (eqb (getD (now (last .entry)) 0 0) 0) head (links (now (first .entry)) (now (last .entry)) (now (next .entry)) (now (back .entry)) (now (busy .entry))) (now (keys .entry)) ⌝ }
 {
     if last[0] == 0 {
-        return constrain(head, first, last, busy, keys, next, back);
+        return constrain(head, masks, first, last, busy, keys, next, back);
     }
     Shifted { head, moves: 0 }
 }
@@ -97,6 +102,7 @@ fn nothing(head: Head) -> Taken
 
 pub fn pop(
     head: Head,
+    masks: Masks,
     first: &mut [u32; 131],
     last: &mut [u32; 131],
     busy: &mut [u64; 3],
@@ -105,13 +111,14 @@ pub fn pop(
     next: &mut [u32],
     back: &mut [u32],
 ) -> Taken
+    requires { ⌜ Reads masks (head .kind) ⌝ }
     requires { ⌜ Ready head (links (now first) (now last) (now next) (now back) (now busy)) (now keys) (now values) ⌝ }
     ensures { λ r. ⌜ answered (r .code) (world (r .head) (links (now (first .exit)) (now (last .exit)) (now (next .exit)) (now (back .exit)) (now (busy .exit))) (now (keys .exit)) (now (values .exit))) (r .moves) (eqb (r .code) 0) (r .key0) (r .key1) (r .value) 0 ≡ popCore (world head (links (now (first .entry)) (now (last .entry)) (now (next .entry)) (now (back .entry)) (now (busy .entry))) (now (keys .entry)) (now (values .entry))) ⌝ }
 {
     if head.len == 0 {
         return nothing(head);
     }
-    let m = ready(head, first, last, busy, keys, next, back);
+    let m = ready(head, masks, first, last, busy, keys, next, back);
     if last[0] == 0 {
         return nothing(m.head);
     }

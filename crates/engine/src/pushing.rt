@@ -1,4 +1,5 @@
-// Push: the first free slot goes to the tail of its bucket, or of the waiting chain.
+// Push: the first free slot goes to the tail of its bucket, or of the waiting chain. The masks are those
+// of the kind.
 use keys::Kind;
 use keys::Masks;
 use pool::Head;
@@ -17,7 +18,7 @@ pub struct Entered {
 }
 
 // What a key by itself is told: code 5 for one that is not well-formed.
-fn key_code_by(kind: Kind, masks: Masks, key0: u64, key1: u64) -> u8
+pub fn key_code(kind: Kind, masks: Masks, key0: u64, key1: u64) -> u8
     requires { ⌜ Reads masks kind ⌝ }
     ensures { λ r. ⌜ r ≡ keyCode kind key0 key1 ⌝ }
 {
@@ -27,18 +28,12 @@ fn key_code_by(kind: Kind, masks: Masks, key0: u64, key1: u64) -> u8
     pool::DONE
 }
 
-pub fn key_code(kind: Kind, key0: u64, key1: u64) -> u8
-    ensures { λ r. ⌜ r ≡ keyCode kind key0 key1 ⌝ }
-{
-    key_code_by(kind, keys::kind_masks(kind), key0, key1)
-}
-
 // The code of a push, where `free` is the link to the first free slot.
-fn push_code_by(head: Head, masks: Masks, free: u32, key0: u64, key1: u64) -> u8
+pub fn push_code(head: Head, masks: Masks, free: u32, key0: u64, key1: u64) -> u8
     requires { ⌜ Reads masks (head .kind) ⌝ }
     ensures { λ r. ⌜ r ≡ pushCode head free key0 key1 ⌝ }
 {
-    let code = key_code_by(head.kind, masks, key0, key1);
+    let code = key_code(head.kind, masks, key0, key1);
     if code != 0 {
         return code;
     }
@@ -51,12 +46,6 @@ fn push_code_by(head: Head, masks: Masks, free: u32, key0: u64, key1: u64) -> u8
         return pool::FULL;
     }
     pool::DONE
-}
-
-pub fn push_code(head: Head, free: u32, key0: u64, key1: u64) -> u8
-    ensures { λ r. ⌜ r ≡ pushCode head free key0 key1 ⌝ }
-{
-    push_code_by(head, keys::kind_masks(head.kind), free, key0, key1)
 }
 
 // The chain where a key belongs.
@@ -72,6 +61,7 @@ fn place(head: Head, masks: Masks, key0: u64, key1: u64) -> usize
 
 pub fn push(
     head: Head,
+    masks: Masks,
     first: &mut [u32; 131],
     last: &mut [u32; 131],
     busy: &mut [u64; 3],
@@ -83,11 +73,11 @@ pub fn push(
     key1: u64,
     value: u64,
 ) -> Entered
+    requires { ⌜ Reads masks (head .kind) ⌝ }
     requires { ⌜ Ready head (links (now first) (now last) (now next) (now back) (now busy)) (now keys) (now values) ⌝ }
     ensures { λ r. ⌜ answered (r .code) (world (r .head) (links (now (first .exit)) (now (last .exit)) (now (next .exit)) (now (back .exit)) (now (busy .exit))) (now (keys .exit)) (now (values .exit))) 0 false 0 0 0 0 ≡ pushCore (world head (links (now (first .entry)) (now (last .entry)) (now (next .entry)) (now (back .entry)) (now (busy .entry))) (now (keys .entry)) (now (values .entry))) key0 key1 value ⌝ }
 {
-    let masks = keys::kind_masks(head.kind);
-    let code = push_code_by(head, masks, first[pool::FREE], key0, key1);
+    let code = push_code(head, masks, first[pool::FREE], key0, key1);
     if code != 0 {
         return Entered { code, head };
     }

@@ -33,8 +33,10 @@ pub fn push(
     let mut first = state.first;
     let mut last = state.last;
     let mut busy = state.busy;
+    let masks = keys::kind_masks(state.head.kind);
     let r = engine::push(
         state.head,
+        masks,
         &mut first,
         &mut last,
         &mut busy,
@@ -80,8 +82,10 @@ pub fn pop(
     let mut first = state.first;
     let mut last = state.last;
     let mut busy = state.busy;
+    let masks = keys::kind_masks(state.head.kind);
     let r = engine::pop(
         state.head,
+        masks,
         &mut first,
         &mut last,
         &mut busy,
@@ -126,8 +130,10 @@ pub fn constrain(
     let mut first = state.first;
     let mut last = state.last;
     let mut busy = state.busy;
+    let masks = keys::kind_masks(state.head.kind);
     let r = engine::constrain(
         state.head,
+        masks,
         &mut first,
         &mut last,
         &mut busy,
@@ -196,7 +202,7 @@ pub fn clear_to(
         };
     }
     let kind = state.head.kind;
-    let told = engine::key_code(kind, key0, key1);
+    let told = engine::key_code(kind, keys::kind_masks(kind), key0, key1);
     if told != 0 {
         return Moves {
             code: told,

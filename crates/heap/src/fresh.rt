@@ -79,7 +79,7 @@ pub fn new_at(
             state: no_state(),
         };
     }
-    let told = engine::key_code(kind, key0, key1);
+    let told = engine::key_code(kind, keys::kind_masks(kind), key0, key1);
     if told != 0 {
         return Answer {
             code: told,

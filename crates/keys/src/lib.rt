@@ -74,7 +74,7 @@ pub fn distance(kind: Kind, a0: u64, a1: u64, b0: u64, b1: u64) -> u32
 }
 
 // A key of one word has second word 0, and a mixed key no bit above its total: else code 5. Masks are
-// built in kind 5 alone, so that a record of another kind does not pay for them.
+// built in kind 5 alone, so that a key of another kind does not pay for them.
 pub fn well_formed(kind: Kind, key0: u64, key1: u64) -> bool
     ensures { λ r. ⌜ r ≡ wellFormed kind key0 key1 ⌝ }
 {

@@ -1,26 +1,28 @@
-// Along a chain: the greatest key, and the spread of a chain.
+// Along a chain: the greatest key, and the spread of a chain. The masks are those of the kind.
 use crate::against::bare0;
 use crate::against::slot_above_slot;
 use crate::against::slot_distance;
 use crate::chain::append;
 use crate::summary::unmark;
 use keys::Kind;
+use keys::Masks;
 ghost use mathlib.Core.Path.{_≡_};
 ghost use Prim.Native.Nat.{_<_, _≤_};
 ghost use lib.ListN.{length};
 ghost use Rattle.keys.specs.Ordered.{ordered};
+ghost use Rattle.keys.specs.Masks.{Reads};
 ghost use Rattle.pool.specs.World.{links};
 ghost use Rattle.pool.specs.Fine.{Under, Fine, Room};
 ghost use Rattle.pool.specs.Core.{greatestOf, drained, drainChain};
 
 // The link of the slot with the greatest key, the first of them, on the chain from the link `start`.
-pub fn greatest(kind: Kind, keys: &[u64], next: &[u32], start: u32) -> u32
+pub fn greatest(kind: Kind, masks: Masks, keys: &[u64], next: &[u32], start: u32) -> u32
+    requires { ⌜ Reads masks kind ⌝ }
     requires { ⌜ Room kind (length (now next)) (now keys) ⌝ }
     requires { ⌜ Under (length (now next)) (now next) ⌝ }
     requires { ⌜ (0 < start) × (start ≤ length (now next)) ⌝ }
     ensures { λ r. ⌜ r ≡ greatestOf kind (now (keys .entry)) (now (next .entry)) start ⌝ }
 {
-    let masks = keys::kind_masks(kind);
     let n = next.len();
     let s = start as usize - 1;
     let mut best = start;
@@ -52,16 +54,17 @@ pub fn spread(
     next: &mut [u32],
     back: &mut [u32],
     kind: Kind,
+    masks: Masks,
     chain: usize,
     top0: u64,
     top1: u64,
 ) -> u32
+    requires { ⌜ Reads masks kind ⌝ }
     requires { ⌜ Fine (links (now first) (now last) (now next) (now back) (now busy)) ⌝ }
     requires { ⌜ Room kind (length (now next)) (now keys) ⌝ }
     requires { ⌜ chain < 131 ⌝ }
     ensures { λ r. ⌜ drained (links (now (first .exit)) (now (last .exit)) (now (next .exit)) (now (back .exit)) (now (busy .exit))) r ≡ drainChain kind (now (keys .entry)) (ordered kind top0 top1) chain (links (now (first .entry)) (now (last .entry)) (now (next .entry)) (now (back .entry)) (now (busy .entry))) ⌝ }
 {
-    let masks = keys::kind_masks(kind);
     let n = next.len();
     let mut at = first[chain];
     unmark(busy, chain);

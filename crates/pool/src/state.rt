@@ -42,8 +42,8 @@ pub struct Head {
 }
 
 impl Head {
-    // The same head, made from its fields. A copy of the whole carries seven bytes of padding along, and
-    // the next read of the head waits for them (docs/PERFORMANCE.md).
+    // The same head, made from its fields. A copy of the whole carries its padding along, and the next
+    // read of the head waits for that (docs/PERFORMANCE.md).
     pub fn anew(self) -> Head
         ensures { λ r. ⌜ r ≡ self ⌝ }
     {

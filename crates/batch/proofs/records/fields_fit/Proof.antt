@@ -6,27 +6,27 @@ use Rattle.batch.proofs.CodeBytes.{fit-push, fit-clear, fit-bare, fit-u
 use Rattle.batch.proofs.records.fields_fit.Statement.{statement}
 use Rattle.batch.proofs.records.fields_fit.Tie as tie
 
-well-formed-requires : tie.Need-well-formed-requires
-well-formed-requires c κs = search needs
+well-formed-by-requires : tie.Need-well-formed-by-requires
+well-formed-by-requires c κs = search needs
 
-well-formed-requires-2 : tie.Need-well-formed-requires-2
-well-formed-requires-2 c κs = search needs
+well-formed-by-requires-2 : tie.Need-well-formed-by-requires-2
+well-formed-by-requires-2 c κs = search needs
 
 is-bare-requires : tie.Need-is-bare-requires
 is-bare-requires c κs = search needs
 
 returns : tie.Need-returns
-returns c = c .well-formed .ensures ∙ sym (fit-push _ _ (c .before .match .keys1))
+returns c = c .well-formed-by .ensures ∙ sym (fit-push _ _ (c .before .match .keys1))
 
 returns-2 : tie.Need-returns-2
 returns-2 c =
     let x = c .before .before .before .before .args in
-    simp (fit-clear (x .kind) (x .r) (c .before .before .before .match .keys2), sym (c .before .before .well-formed2 .ensures) ∙ c .before .if1 .taken)
+    simp (fit-clear (x .kind) (x .r) (c .before .before .before .match .keys2), sym (c .before .before .well-formed-by2 .ensures) ∙ c .before .if1 .taken)
 
 returns-3 : tie.Need-returns-3
 returns-3 c =
     let x = c .before .before .before .args in
-    simp (fit-clear (x .kind) (x .r) (c .before .before .match .keys2), sym (c .before .well-formed2 .ensures) ∙ c .if1 .left, c .if1 .left)
+    simp (fit-clear (x .kind) (x .r) (c .before .before .match .keys2), sym (c .before .well-formed-by2 .ensures) ∙ c .if1 .left, c .if1 .left)
 
 returns-4 : tie.Need-returns-4
 returns-4 c =
@@ -43,8 +43,8 @@ pub fields-fit-spec : {M : Type 1} → statement M
 fields-fit-spec =
     tie.close
     (tie.spec
-    well-formed-requires
-    well-formed-requires-2
+    well-formed-by-requires
+    well-formed-by-requires-2
     is-bare-requires
     returns
     returns-2

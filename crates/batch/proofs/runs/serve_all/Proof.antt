@@ -1,9 +1,11 @@
 -- `batch::runs::serve_all` meets its contract. The loop's invariant: at record i the world is sound, and what is left to do from here
 -- is what there was to do. The measure is what is left of the records. Assumes nothing.
+use mathlib.Core.Path.{sym, subst}
 use Prim.Native.Nat.{_+_, _-_, _*_, _^_, _≤_, _<_}
 use native.Mathlib.Omega.{arith}
 use borrow.Author.Needs.{needs}
 use lib.ListN.{length, length-take, length-drop}
+use Rattle.keys.specs.Masks.{Reads}
 use Rattle.pool.specs.World.{links, world}
 use Rattle.pool.proofs.Fine.{whole-ready}
 use Rattle.batch.proofs.CodeRuns.{Turn, turn-first, served-anew, turn-next, turn-last}
@@ -11,19 +13,22 @@ use Rattle.batch.proofs.runs.serve_all.Statement.{statement}
 use Rattle.batch.proofs.runs.serve_all.Tie as tie
 
 abbrev Inv-loop : tie.InvT-loop
-Inv-loop first₀ last₀ busy₀ keys₀ values₀ next₀ back₀ records answers₀ n h₀ i₀ first last busy keys values next back answers h i =
+Inv-loop first₀ last₀ busy₀ keys₀ values₀ next₀ back₀ records answers₀ n masks h₀ i₀ first last busy keys values next back answers h i =
     Turn n records (world h₀ (links first₀ last₀ next₀ back₀ busy₀) keys₀ values₀) answers₀ (world h (links first last next back busy) keys values) answers i
 
 abbrev μ-loop : tie.MeasureT-loop
-μ-loop first₀ last₀ busy₀ keys₀ values₀ next₀ back₀ records answers₀ n h₀ i₀ first last busy keys values next back answers h i =
+μ-loop first₀ last₀ busy₀ keys₀ values₀ next₀ back₀ records answers₀ n masks h₀ i₀ first last busy keys values next back answers h i =
     n - i
 
 -- record i has its 40 bytes
 room : (c : tie.In-loop Inv-loop μ-loop) → (40 * c .before .loop .i + 40 ≤ length (c .before .loop .answers)) × (40 * c .before .loop .i + 40 < 2 ^ 64)
 room c = omega (arith, c .before .loop .inv .answers)
 
+kind-masks-requires : tie.Need-kind-masks-requires Inv-loop μ-loop
+kind-masks-requires c κs = search needs
+
 loop-holds : tie.Need-loop-holds Inv-loop μ-loop
-loop-holds c = turn-first _ _ _ _ (c .before .before .before .before .before .before .pre .0)
+loop-holds c = turn-first _ _ _ _ (c .before .before .before .before .before .before .before .pre .0)
 
 mul-read : tie.Need-mul-read Inv-loop μ-loop
 mul-read c = search needs
@@ -32,7 +37,9 @@ read-requires : tie.Need-read-requires Inv-loop μ-loop
 read-requires c κs = search needs
 
 serve-requires : tie.Need-serve-requires Inv-loop μ-loop
-serve-requires c κs = whole-ready (c .before .before .before .before .before .before .before .before .before .loop .inv .whole)
+serve-requires c κs =
+    let l = c .before .before .before .before .before .before .before .before .before .loop .inv in
+    (subst (Reads _) (sym (l .kind)) (c .before .before .before .before .before .before .before .before .before .before .kind-masks .ensures), whole-ready (l .whole))
 
 anew-requires : tie.Need-anew-requires Inv-loop μ-loop
 anew-requires c κs = search needs
@@ -61,7 +68,7 @@ loop-less c = omega (arith, c .before .before .before .before .before .before .b
 loop-again : tie.Need-loop-again Inv-loop μ-loop
 loop-again c =
     let l = c .before .before .before .before .before .before .before .before .before .before .before .before .before .before .before .before .before .before .before .before .before .before .before in
-    turn-next (l .before .loop .inv) (l .loop-test .taken) (l .before .before .before .before .before .before .before .before .pre .1 .1)
+    turn-next (l .before .loop .inv) (l .loop-test .taken) (l .before .before .before .before .before .before .before .before .before .pre .1 .1)
     (c .before .before .before .before .before .before .before .before .before .before .before .before .before .before .before .before .before .before .before .before .before .before .read .ensures) (served-anew (c .before .before .before .before .anew .ensures) (c .before .before .before .before .before .before .before .before .before .before .before .before .before .before .serve .ensures)) (c .before .before .write .ensures)
 
 same-length : tie.Need-same-length Inv-loop μ-loop
@@ -88,6 +95,7 @@ serve-all-spec =
     (tie.spec
     Inv-loop
     μ-loop
+    kind-masks-requires
     loop-holds
     mul-read
     read-requires

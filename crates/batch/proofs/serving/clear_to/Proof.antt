@@ -15,7 +15,7 @@ returns : tie.Need-returns
 returns c = told-replied (c .bare .ensures) (clearTo-malformed _ _ _ _ (c .before .before .key-code .ensures) (c .before .if1 .taken))
 
 reset-requires : tie.Need-reset-requires
-reset-requires c κs = ready-pooled (c .before .before .before .before .before .before .before .before .before .before .before .before .before .pre)
+reset-requires c κs = ready-pooled (c .before .before .before .before .before .before .before .before .before .before .before .before .before .pre .1)
 
 bare-requires-2 : tie.Need-bare-requires-2
 bare-requires-2 c κs = search needs

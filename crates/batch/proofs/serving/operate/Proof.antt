@@ -1,5 +1,5 @@
 -- `batch::serving::operate` meets its contract: what each operation gives is what `operatedCore` says. Assumes nothing.
-use Rattle.batch.proofs.CodeServing.{told-replied, op-push, op-pop, op-constrain, op-clear, op-clearTo, op-read}
+use Rattle.batch.proofs.CodeServing.{op-push, op-pop, op-constrain, op-clear, op-clearTo, op-read}
 use borrow.Author.Needs.{needs}
 use Rattle.batch.proofs.serving.operate.Statement.{statement}
 use Rattle.batch.proofs.serving.operate.Tie as tie
@@ -41,10 +41,7 @@ returns-2 : tie.Need-returns-2
 returns-2 c = op-pop _ _ (c .before .before .before .before .before .before .before .before .before .before .before .before .before .before .before .before .if2 .taken) (c .before .before .before .before .before .before .before .before .pop .ensures)
 
 constrain-requires : tie.Need-constrain-requires
-constrain-requires c κs = search needs
-
-bare-requires : tie.Need-bare-requires
-bare-requires c κs = search needs
+constrain-requires c κs = let p = c .before .before .before .before .before .before .before .before .before .before .before .before .before .pre in (p .0, (p .1 .fine, p .1 .room))
 
 same-length-9 : tie.Need-same-length-9
 same-length-9 c = search needs
@@ -56,7 +53,7 @@ same-length-11 : tie.Need-same-length-11
 same-length-11 c = search needs
 
 returns-3 : tie.Need-returns-3
-returns-3 c = told-replied (c .bare .ensures) (op-constrain _ _ (c .before .before .before .before .before .before .before .before .before .before .before .before .before .if3 .taken) (c .before .before .before .before .before .before .constrain .ensures))
+returns-3 c = op-constrain _ _ (c .before .before .before .before .before .before .before .before .before .before .before .if3 .taken) (c .before .before .before .before .constrain .ensures _)
 
 clear-requires : tie.Need-clear-requires
 clear-requires c κs = search needs
@@ -117,7 +114,6 @@ operate-spec =
     same-length-8
     returns-2
     constrain-requires
-    bare-requires
     same-length-9
     same-length-10
     same-length-11

@@ -8,8 +8,11 @@ use Rattle.bulk.proofs.ordered.push_one.Tie as tie
 returns : tie.Need-returns
 returns c = push-over _ _ _ _ (c .if1 .taken)
 
+kind-masks-requires : tie.Need-kind-masks-requires
+kind-masks-requires c κs = search needs
+
 push-requires : tie.Need-push-requires
-push-requires c κs = whole-ready (sure-whole _ (c .before .before .before .before .before .before .before .before .before .before .before .before .before .before .before .before .before .pre) (c .before .before .before .before .before .before .before .before .before .before .before .if1 .left))
+push-requires c κs = (c .before .before .before .before .before .before .before .kind-masks .ensures, whole-ready (sure-whole _ (c .before .before .before .before .before .before .before .before .before .before .before .before .before .before .before .before .before .before .pre) (c .before .before .before .before .before .before .before .before .before .before .before .before .if1 .left)))
 
 same-length : tie.Need-same-length
 same-length c = search needs
@@ -24,13 +27,14 @@ same-length-4 : tie.Need-same-length-4
 same-length-4 c = search needs
 
 returns-2 : tie.Need-returns-2
-returns-2 c = push-goes _ _ _ _ (c .before .before .before .before .before .before .before .before .before .before .before .before .before .before .before .before .before .before .before .before .before .if1 .left) _ (c .before .before .before .before .before .before .before .before .before .push .ensures)
+returns-2 c = push-goes _ _ _ _ (c .before .before .before .before .before .before .before .before .before .before .before .before .before .before .before .before .before .before .before .before .before .before .if1 .left) _ (c .before .before .before .before .before .before .before .before .before .push .ensures)
 
 pub push-one-spec : {M : Type 1} → statement M
 push-one-spec =
     tie.close
     (tie.spec
     returns
+    kind-masks-requires
     push-requires
     same-length
     same-length-2

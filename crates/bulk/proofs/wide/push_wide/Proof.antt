@@ -48,26 +48,29 @@ loop-holds c = record {
   same = refl;
 }
 
+kind-masks-requires : tie.Need-kind-masks-requires Inv-loop μ-loop
+kind-masks-requires c κs = search needs
+
 mul-push : tie.Need-mul-push Inv-loop μ-loop
-mul-push c = omega (arith, c .before .before .before .before .before .before .before .before .loop .inv .low, c .before .before .before .before .before .before .before .loop-test .taken, c .before .before .before .before .before .before .before .before .before .before .before .before .before .before .before .before .before .good)
+mul-push c = omega (arith, c .before .before .before .before .before .before .before .before .before .loop .inv .low, c .before .before .before .before .before .before .before .before .loop-test .taken, c .before .before .before .before .before .before .before .before .before .before .before .before .before .before .before .before .before .before .good)
 
 shared-slice-read-push : tie.Need-shared-slice-read-push Inv-loop μ-loop
 shared-slice-read-push c = search needs
 
 mul-push-2 : tie.Need-mul-push-2 Inv-loop μ-loop
-mul-push-2 c = omega (arith, c .before .before .before .before .before .before .before .before .before .loop .inv .low, c .before .before .before .before .before .before .before .before .loop-test .taken, c .before .before .before .before .before .before .before .before .before .before .before .before .before .before .before .before .before .before .good)
+mul-push-2 c = omega (arith, c .before .before .before .before .before .before .before .before .before .before .loop .inv .low, c .before .before .before .before .before .before .before .before .before .loop-test .taken, c .before .before .before .before .before .before .before .before .before .before .before .before .before .before .before .before .before .before .before .good)
 
 shared-slice-read-push-2 : tie.Need-shared-slice-read-push-2 Inv-loop μ-loop
 shared-slice-read-push-2 c = search needs
 
 mul-push-3 : tie.Need-mul-push-3 Inv-loop μ-loop
-mul-push-3 c = omega (arith, c .before .before .before .before .before .before .before .before .before .before .loop .inv .low, c .before .before .before .before .before .before .before .before .before .loop-test .taken, c .before .before .before .before .before .before .before .before .before .before .before .before .before .before .before .before .before .before .before .good)
+mul-push-3 c = omega (arith, c .before .before .before .before .before .before .before .before .before .before .before .loop .inv .low, c .before .before .before .before .before .before .before .before .before .before .loop-test .taken, c .before .before .before .before .before .before .before .before .before .before .before .before .before .before .before .before .before .before .before .before .good)
 
 shared-slice-read-push-3 : tie.Need-shared-slice-read-push-3 Inv-loop μ-loop
 shared-slice-read-push-3 c = search needs
 
 push-requires : tie.Need-push-requires Inv-loop μ-loop
-push-requires c κs = whole-ready (c .before .before .before .before .before .before .before .before .before .before .before .loop .inv .whole)
+push-requires c κs = (c .before .before .before .before .before .before .before .before .before .before .kind-masks .ensures, whole-ready (c .before .before .before .before .before .before .before .before .before .before .before .before .loop .inv .whole))
 
 add-i : tie.Need-add-i Inv-loop μ-loop
 add-i c = search needs
@@ -77,7 +80,7 @@ loop-less c = search needs
 
 loop-again : tie.Need-loop-again Inv-loop μ-loop
 loop-again c =
-    let l = c .before .before .before .before .before .before .before .before .before .before .before .before .before .before .before .before .before .before .before .before .before .loop in
+    let l = c .before .before .before .before .before .before .before .before .before .before .before .before .before .before .before .before .before .before .before .before .before .before .loop in
     let e = c .before .before .before .before .before .before .before .before .before .push .ensures in
     record {
       turns = omega arith;
@@ -116,6 +119,7 @@ push-wide-spec =
     μ-loop
     count-requires
     loop-holds
+    kind-masks-requires
     mul-push
     shared-slice-read-push
     mul-push-2

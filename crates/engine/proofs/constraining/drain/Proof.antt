@@ -18,7 +18,8 @@ element-copy-out-greatest c = search needs
 greatest-requires : tie.Need-greatest-requires
 greatest-requires c κs =
     let p = c .before .before .before .before .before .pre in
-    (p .1 .0, (p .0 .next, (p .1 .1 .1, p .0 .first .at (c .before .before .before .before .before .args .chain))))
+    let fine = p .1 .0 in
+    (p .0, (p .1 .1 .0, (fine .next, (p .1 .1 .1 .1, fine .first .at (c .before .before .before .before .before .args .chain)))))
 
 cast-g : tie.Need-cast-g
 cast-g c = search needs
@@ -28,19 +29,19 @@ found : (c : tie.After-greatest) → Slot (length (c .before .before .before .be
 found c =
     let p = c .before .before .before .before .before .before .pre in
     let x = c .before .before .before .before .before .before .args in
-    subst (Slot (length (x .next .now))) (sym (c .greatest .ensures)) (greatest-slot (x .head .kind) (x .keys .now) (x .next .now) _ (p .0 .next) _ (p .1 .1 .1, p .0 .first .at (x .chain)))
+    subst (Slot (length (x .next .now))) (sym (c .greatest .ensures)) (greatest-slot (x .kind) (x .keys .now) (x .next .now) _ (p .1 .0 .next) _ (p .1 .1 .1 .1, p .1 .0 .first .at (x .chain)))
 
 sub-g : tie.Need-sub-g
 sub-g c = omega (arith, found c)
 
 key0-requires : tie.Need-key0-requires
-key0-requires c κs = room-holds _ (c .before .before .before .before .before .before .pre .1 .0) (omega (arith, found c))
+key0-requires c κs = room-holds _ (c .before .before .before .before .before .before .pre .1 .1 .0) (omega (arith, found c))
 
 key1-requires : tie.Need-key1-requires
-key1-requires c κs = room-holds _ (c .before .before .before .before .before .before .before .pre .1 .0) (omega (arith, found (c .before)))
+key1-requires c κs = room-holds _ (c .before .before .before .before .before .before .before .pre .1 .1 .0) (omega (arith, found (c .before)))
 
 spread-requires : tie.Need-spread-requires
-spread-requires c κs = let p = c .before .before .before .before .before .before .before .before .before .before .before .before .before .pre in (p .0, (p .1 .0, p .1 .1 .0))
+spread-requires c κs = let p = c .before .before .before .before .before .before .before .before .before .before .before .before .before .pre in (p .0, (p .1 .0, (p .1 .1 .0, p .1 .1 .1 .0)))
 
 same-length : tie.Need-same-length
 same-length c = search needs
@@ -49,7 +50,7 @@ same-length-2 : tie.Need-same-length-2
 same-length-2 c = search needs
 
 returns : tie.Need-returns
-returns c = drain-gives _ _ _ _ _ _ _ _ _ (c .before .before .before .before .before .before .before .before .before .before .before .before .before .greatest .ensures) (c .before .before .before .before .before .before .before .before .before .before .before .before .key0 .ensures) (c .before .before .before .before .before .before .before .before .before .before .before .key1 .ensures) (c .before .before .before .before .before .spread .ensures)
+returns c = drain-gives _ _ _ _ _ _ _ _ _ (c .before .before .before .before .before .before .before .before .before .before .before .before .greatest .ensures) (c .before .before .before .before .before .before .before .before .before .before .before .key0 .ensures) (c .before .before .before .before .before .before .before .before .before .before .key1 .ensures) (c .before .before .before .before .spread .ensures)
 
 pub drain-spec : {M : Type 1} → statement M
 drain-spec =

@@ -35,7 +35,7 @@ returns-2 c = pop-bare _ _ _ _ (c .before .before .before .before .before .befor
 
 take-tail-requires : tie.Need-take-tail-requires
 take-tail-requires c κs =
-    let r = readied-ready _ _ (c .before .before .before .before .before .before .before .before .before .before .before .before .before .before .before .before .before .before .before .before .before .before .before .before .before .before .pre) (c .before .before .before .before .before .before .before .before .before .before .before .before .before .ready .ensures) in
+    let r = readied-ready _ _ (c .before .before .before .before .before .before .before .before .before .before .before .before .before .before .before .before .before .before .before .before .before .before .before .before .before .before .pre .1) (c .before .before .before .before .before .before .before .before .before .before .before .before .before .ready .ensures) in
     (r .0, (omega (arith, c .before .before .before .before .before .before .before .if2 .left), omega (arith, r .1, c .before .before .before .before .before .before .before .before .before .before .before .before .before .before .before .before .before .before .before .before .if1 .left)))
 
 same-length-4 : tie.Need-same-length-4

@@ -32,8 +32,11 @@ returns : tie.Need-returns
 unfolding clearedTo
 returns c = stopped _ _ (c .before .examine .ensures) _ (c .if1 .taken)
 
+kind-masks-requires : tie.Need-kind-masks-requires
+kind-masks-requires c κs = search needs
+
 key-code-requires : tie.Need-key-code-requires
-key-code-requires c κs = search needs
+key-code-requires c κs = c .kind-masks .ensures
 
 same-length-5 : tie.Need-same-length-5
 same-length-5 c = search needs
@@ -55,13 +58,13 @@ small : (c : tie.Else1) → length (c .before .before .before .before .before .b
 small c = passed-small _ _ (c .before .examine .ensures) (typed c) (c .if1 .left)
 
 returns-2 : tie.Need-returns-2
-returns-2 c = clearedTo-malformed _ _ (c .before .before .before .before .examine .ensures) (typed (c .before .before .before)) (c .before .before .before .if1 .left) _ _ _ (c .before .key-code .ensures) (c .if2 .taken)
+returns-2 c = clearedTo-malformed _ _ (c .before .before .before .before .before .examine .ensures) (typed (c .before .before .before .before)) (c .before .before .before .before .if1 .left) _ _ _ (c .before .key-code .ensures) (c .if2 .taken)
 
 lay-fresh-requires : tie.Need-lay-fresh-requires
-lay-fresh-requires c κs = small (c .before .before .before .before .before .before .before)
+lay-fresh-requires c κs = small (c .before .before .before .before .before .before .before .before)
 
 cast-fresh-state : tie.Need-cast-fresh-state
-cast-fresh-state c = omega (arith, small (c .before .before .before .before .before .before .before .before .before .before .before .before .before .before .before .before))
+cast-fresh-state c = omega (arith, small (c .before .before .before .before .before .before .before .before .before .before .before .before .before .before .before .before .before))
 
 fresh-state-requires : tie.Need-fresh-state-requires
 fresh-state-requires c κs = search needs
@@ -81,7 +84,7 @@ same-length-12 c = search needs
 returns-3 : tie.Need-returns-3
 returns-3 c =
     let d = c .before .before .before .before .before .before .before .before .before .before .before .before .before .before in
-    clearedTo-fresh _ _ (d .before .before .before .before .examine .ensures) (typed (d .before .before .before)) (d .before .before .before .if1 .left) _ _ _ _ _ _ _ (sym (d .before .key-code .ensures) ∙ d .if2 .left) (c .before .before .before .before .before .before .before .before .before .lay-fresh .ensures) (c .fresh-state .ensures)
+    clearedTo-fresh _ _ (d .before .before .before .before .before .examine .ensures) (typed (d .before .before .before .before)) (d .before .before .before .before .if1 .left) _ _ _ _ _ _ _ (sym (d .before .key-code .ensures) ∙ d .if2 .left) (c .before .before .before .before .before .before .before .before .before .lay-fresh .ensures) (c .fresh-state .ensures)
 
 pub clear-to-spec : {M : Type 1} → statement M
 clear-to-spec =
@@ -93,6 +96,7 @@ clear-to-spec =
     same-length-3
     same-length-4
     returns
+    kind-masks-requires
     key-code-requires
     same-length-5
     same-length-6

@@ -27,8 +27,12 @@ returns c = stopped _ _ (c .before .examine .ensures) _ (c .if1 .taken)
 whole : (c : tie.Else1) → let x = c .before .before .before .before .before .before .before .before .args in Whole (worldOf (x .state) (x .keys .now) (x .values .now) (x .next .now) (x .back .now))
 whole c = passed-whole _ _ (c .before .examine .ensures) (state-typed _ (search needs) (search needs) (search needs) (λ j. search needs)) (c .if1 .left)
 
+kind-masks-requires : tie.Need-kind-masks-requires
+kind-masks-requires c κs = search needs
+
 constrain-requires : tie.Need-constrain-requires
-constrain-requires c κs = (whole-fine (whole (c .before .before .before .before .before .before .before .before)), whole-room (whole (c .before .before .before .before .before .before .before .before)))
+constrain-requires c κs =
+    let w = whole (c .before .before .before .before .before .before .before .before .before) in (c .before .before .before .before .before .kind-masks .ensures, (whole-fine w, whole-room w))
 
 same-length-3 : tie.Need-same-length-3
 same-length-3 c = search needs
@@ -37,7 +41,7 @@ same-length-4 : tie.Need-same-length-4
 same-length-4 c = search needs
 
 returns-2 : tie.Need-returns-2
-returns-2 c = constrained-is (whole (c .before .before .before .before .before .before .before .before .before .before .before .before .before .before)) (c .before .before .before .before .before .constrain .ensures)
+returns-2 c = constrained-is (whole (c .before .before .before .before .before .before .before .before .before .before .before .before .before .before .before)) (c .before .before .before .before .before .constrain .ensures)
 
 pub constrain-spec : {M : Type 1} → statement M
 constrain-spec =
@@ -47,6 +51,7 @@ constrain-spec =
     same-length
     same-length-2
     returns
+    kind-masks-requires
     constrain-requires
     same-length-3
     same-length-4

@@ -35,8 +35,11 @@ returns c = stopped _ _ (c .before .examine .ensures) _ (c .if1 .taken)
 whole : (c : tie.Else1) → let x = c .before .before .before .before .before .before .before .before .before .before .args in Whole (worldOf (x .state) (x .keys .now) (x .values .now) (x .next .now) (x .back .now))
 whole c = passed-whole _ _ (c .before .examine .ensures) (state-typed _ (search needs) (search needs) (search needs) (λ j. search needs)) (c .if1 .left)
 
+kind-masks-requires : tie.Need-kind-masks-requires
+kind-masks-requires c κs = search needs
+
 pop-requires : tie.Need-pop-requires
-pop-requires c κs = whole-ready (whole (c .before .before .before .before .before .before .before .before .before .before))
+pop-requires c κs = (c .before .before .before .before .before .before .before .kind-masks .ensures, whole-ready (whole (c .before .before .before .before .before .before .before .before .before .before .before)))
 
 given-if-requires : tie.Need-given-if-requires
 given-if-requires c κs = search needs
@@ -55,7 +58,7 @@ same-length-8 c = search needs
 
 returns-2 : tie.Need-returns-2
 returns-2 c = ap (popAnswered _ _ _) (c .given-if .ensures)
-    ∙ popped-given (whole (c .before .before .before .before .before .before .before .before .before .before .before .before .before .before .before .before .before .before .before .before .before .before)) _ _ _ _ _ _ (c .before .before .before .before .before .before .before .before .before .before .before .pop .ensures)
+    ∙ popped-given (whole (c .before .before .before .before .before .before .before .before .before .before .before .before .before .before .before .before .before .before .before .before .before .before .before)) _ _ _ _ _ _ (c .before .before .before .before .before .before .before .before .before .before .before .pop .ensures)
 
 pub pop-spec : {M : Type 1} → statement M
 pop-spec =
@@ -67,6 +70,7 @@ pop-spec =
     same-length-3
     same-length-4
     returns
+    kind-masks-requires
     pop-requires
     given-if-requires
     same-length-5

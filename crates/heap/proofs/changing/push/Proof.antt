@@ -33,8 +33,11 @@ returns c = stopped _ _ (c .before .examine .ensures) _ (c .if1 .taken)
 whole : (c : tie.Else1) → let x = c .before .before .before .before .before .before .before .before .before .before .args in Whole (worldOf (x .state) (x .keys .now) (x .values .now) (x .next .now) (x .back .now))
 whole c = passed-whole _ _ (c .before .examine .ensures) (state-typed _ (search needs) (search needs) (search needs) (λ j. search needs)) (c .if1 .left)
 
+kind-masks-requires : tie.Need-kind-masks-requires
+kind-masks-requires c κs = search needs
+
 push-requires : tie.Need-push-requires
-push-requires c κs = whole-ready (whole (c .before .before .before .before .before .before .before .before .before .before))
+push-requires c κs = (c .before .before .before .before .before .before .before .kind-masks .ensures, whole-ready (whole (c .before .before .before .before .before .before .before .before .before .before .before)))
 
 same-length-5 : tie.Need-same-length-5
 same-length-5 c = search needs
@@ -49,7 +52,7 @@ same-length-8 : tie.Need-same-length-8
 same-length-8 c = search needs
 
 returns-2 : tie.Need-returns-2
-returns-2 c = pushed-is (whole (c .before .before .before .before .before .before .before .before .before .before .before .before .before .before .before .before .before .before .before .before)) _ _ _ (c .before .before .before .before .before .before .before .before .before .push .ensures)
+returns-2 c = pushed-is (whole (c .before .before .before .before .before .before .before .before .before .before .before .before .before .before .before .before .before .before .before .before .before)) _ _ _ (c .before .before .before .before .before .before .before .before .before .push .ensures)
 
 pub push-spec : {M : Type 1} → statement M
 push-spec =
@@ -61,6 +64,7 @@ push-spec =
     same-length-3
     same-length-4
     returns
+    kind-masks-requires
     push-requires
     same-length-5
     same-length-6

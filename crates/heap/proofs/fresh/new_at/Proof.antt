@@ -19,8 +19,11 @@ no-state-requires c κs = search needs
 returns : tie.Need-returns
 returns c = madeAt-unfit _ _ _ _ _ _ _ _ (sym (c .before .before .fits2 .ensures) ∙ not-true _ (c .before .if1 .taken)) (c .no-state .ensures)
 
+kind-masks-requires : tie.Need-kind-masks-requires
+kind-masks-requires c κs = search needs
+
 key-code-requires : tie.Need-key-code-requires
-key-code-requires c κs = search needs
+key-code-requires c κs = c .kind-masks .ensures
 
 no-state-requires-2 : tie.Need-no-state-requires-2
 no-state-requires-2 c κs = search needs
@@ -35,13 +38,13 @@ small c =
     tested-small (x .kind) (x .keys .now) (x .values .now) (x .next .now) (x .back .now) (fit c)
 
 returns-2 : tie.Need-returns-2
-returns-2 c = madeAt-malformed _ _ _ _ _ _ _ _ _ (fit (c .before .before .before)) (c .before .before .key-code .ensures) (c .before .if2 .taken) (c .no-state2 .ensures)
+returns-2 c = madeAt-malformed _ _ _ _ _ _ _ _ _ (fit (c .before .before .before .before)) (c .before .before .key-code .ensures) (c .before .if2 .taken) (c .no-state2 .ensures)
 
 lay-fresh-requires : tie.Need-lay-fresh-requires
-lay-fresh-requires c κs = small (c .before .before .before .before .before .before)
+lay-fresh-requires c κs = small (c .before .before .before .before .before .before .before)
 
 cast-fresh-state : tie.Need-cast-fresh-state
-cast-fresh-state c = omega (arith, small (c .before .before .before .before .before .before .before .before .before .before .before .before .before .before .before))
+cast-fresh-state c = omega (arith, small (c .before .before .before .before .before .before .before .before .before .before .before .before .before .before .before .before))
 
 fresh-state-requires : tie.Need-fresh-state-requires
 fresh-state-requires c κs = search needs
@@ -61,7 +64,7 @@ same-length-4 c = search needs
 returns-3 : tie.Need-returns-3
 returns-3 c =
     let d = c .before .before .before .before .before .before .before .before .before .before .before .before .before .before in
-    madeAt-fresh _ _ _ _ _ _ _ _ _ _ _ _ (fit (d .before .before)) (sym (d .before .key-code .ensures) ∙ d .if2 .left) (c .before .before .before .before .before .before .before .before .before .lay-fresh .ensures) (c .fresh-state .ensures)
+    madeAt-fresh _ _ _ _ _ _ _ _ _ _ _ _ (fit (d .before .before .before)) (sym (d .before .key-code .ensures) ∙ d .if2 .left) (c .before .before .before .before .before .before .before .before .before .lay-fresh .ensures) (c .fresh-state .ensures)
 
 pub new-at-spec : {M : Type 1} → statement M
 new-at-spec =
@@ -70,6 +73,7 @@ new-at-spec =
     fits-requires
     no-state-requires
     returns
+    kind-masks-requires
     key-code-requires
     no-state-requires-2
     returns-2

@@ -26,19 +26,16 @@ record Turn (kind : Kind) (keys next : List ℕ) (n at₀ best₀ at best best0 
   same : greatestFrom n kind keys next at₀ best₀ ≡ greatestFrom (n - turns) kind keys next at best
 
 abbrev Inv-loop : tie.InvT-loop
-Inv-loop kind keys next start masks n s best₀ best0₀ at₀ turns₀ best best0 at turns = Turn kind keys next n at₀ best₀ at best best0 turns
+Inv-loop kind masks keys next start n s best₀ best0₀ at₀ turns₀ best best0 at turns = Turn kind keys next n at₀ best₀ at best best0 turns
 
 abbrev μ-loop : tie.MeasureT-loop
-μ-loop kind keys next start masks n s best₀ best0₀ at₀ turns₀ best best0 at turns = n - turns
-
-kind-masks-requires : tie.Need-kind-masks-requires Inv-loop μ-loop
-kind-masks-requires c κs = search needs
+μ-loop kind masks keys next start n s best₀ best0₀ at₀ turns₀ best best0 at turns = n - turns
 
 sub-s : tie.Need-sub-s Inv-loop μ-loop
 sub-s c = search needs
 
 bare0-requires : tie.Need-bare0-requires Inv-loop μ-loop
-bare0-requires c κs = room-holds _ (c .before .before .before .pre .0) (omega arith)
+bare0-requires c κs = room-holds _ (c .before .before .pre .1 .0) (omega arith)
 
 mul-at : tie.Need-mul-at Inv-loop μ-loop
 mul-at c = search needs
@@ -49,9 +46,9 @@ shared-slice-read-at c = search needs
 loop-holds : tie.Need-loop-holds Inv-loop μ-loop
 loop-holds c = record {
   budget = search needs;
-  link = c .before .before .before .before .before .pre .1 .0 .at (c .before .before .before .before .before .args .start - 1);
-  low = c .before .before .before .before .before .pre .1 .1 .0;
-  high = c .before .before .before .before .before .pre .1 .1 .1;
+  link = c .before .before .before .before .pre .1 .1 .0 .at (c .before .before .before .before .args .start - 1);
+  low = c .before .before .before .before .pre .1 .1 .1 .0;
+  high = c .before .before .before .before .pre .1 .1 .1 .1;
   word = c .before .bare0 .ensures;
   same = simp sub-zero;
 }
@@ -70,12 +67,13 @@ sub-slot-above-slot c = search needs
 
 slot-above-slot-requires : tie.Need-slot-above-slot-requires Inv-loop μ-loop
 slot-above-slot-requires c κs =
-    let room = c .before .before .before .before .before .before .before .before .pre .0 in
+    let p = c .before .before .before .before .before .before .before .pre in
+    let room = p .1 .0 in
     let l = c .before .before .loop in
-    (c .before .before .before .before .before .kind-masks .ensures, (room-holds _ room (omega arith), (room-holds _ room (omega (arith, l .inv .low, l .inv .high)), l .inv .word)))
+    (p .0, (room-holds _ room (omega arith), (room-holds _ room (omega (arith, l .inv .low, l .inv .high)), l .inv .word)))
 
 bare0-requires-2 : tie.Need-bare0-requires-2 Inv-loop μ-loop
-bare0-requires-2 c κs = room-holds _ (c .before .before .before .before .before .before .before .before .before .before .pre .0) (omega arith)
+bare0-requires-2 c κs = room-holds _ (c .before .before .before .before .before .before .before .before .before .pre .1 .0) (omega arith)
 
 mul-at-2 : tie.Need-mul-at-2 Inv-loop μ-loop
 mul-at-2 c = search needs
@@ -91,10 +89,10 @@ loop-less c = search needs
 
 -- where the branch's arms meet: `best` is the better of the two, and `best0` is its first word
 met : (c : tie.Joined2 Inv-loop μ-loop)
-    → let x = c .before .before .before .before .before .before .before .before .before .before .args in let l = c .before .before .before .before .loop in
+    → let x = c .before .before .before .before .before .before .before .before .before .args in let l = c .before .before .before .before .loop in
     (c .if2 .best ≡ better (x .kind) (x .keys .now) (l .at) (l .best)) × (x .kind .number ≢ 5 → c .if2 .best0 ≡ keyWord0 (x .kind) (x .keys .now) (c .if2 .best - 1)) × (0 < c .if2 .best) × (c .if2 .best ≤ length (x .next .now))
 met c =
-    let x = c .before .before .before .before .before .before .before .before .before .before .args in
+    let x = c .before .before .before .before .before .before .before .before .before .args in
     let l = c .before .before .before .before .loop in
     let z = c .before .before .if1 .left in
     let told = c .before .slot-above-slot .ensures in
@@ -106,11 +104,11 @@ met c =
 loop-again : tie.Need-loop-again Inv-loop μ-loop
 loop-again c =
     let l = c .before .before .before .before .before .loop in
-    let x = c .before .before .before .before .before .before .before .before .before .before .before .args in
+    let x = c .before .before .before .before .before .before .before .before .before .before .args in
     let m = met (c .before) in
     record {
       budget = omega arith;
-      link = c .before .before .before .before .before .before .before .before .before .before .before .pre .1 .0 .at (l .at - 1);
+      link = c .before .before .before .before .before .before .before .before .before .before .pre .1 .1 .0 .at (l .at - 1);
       low = m .2;
       high = m .3;
       word = m .1;
@@ -121,14 +119,14 @@ returns : tie.Need-returns Inv-loop μ-loop
 unfolding greatestOf
 returns c =
     let l = c .before .loop in
-    let x = c .before .before .before .before .before .before .before .args in
+    let x = c .before .before .before .before .before .before .args in
     sym (l .inv .same ∙ greatest-end (x .kind) (x .keys .now) (x .next .now) (l .at) (l .best) (length (x .next .now) - l .turns) (omega arith))
 
 returns-2 : tie.Need-returns-2 Inv-loop μ-loop
 unfolding greatestOf
 returns-2 c =
     let l = c .before .before .loop in
-    let x = c .before .before .before .before .before .before .before .before .args in
+    let x = c .before .before .before .before .before .before .before .args in
     sym (l .inv .same ∙ greatest-stop (x .kind) (x .keys .now) (x .next .now) (l .at) (l .best) (length (x .next .now) - l .turns) (c .if1 .taken))
 
 pub greatest-spec : {M : Type 1} → statement M
@@ -137,7 +135,6 @@ greatest-spec =
     (tie.spec
     Inv-loop
     μ-loop
-    kind-masks-requires
     sub-s
     bare0-requires
     mul-at

@@ -24,15 +24,12 @@ record Turn (kind : Kind) (keys : List ℕ) (top n : ℕ) (s₀ : Links) (at₀ 
   same : drainFrom n kind keys top at₀ 0 s₀ ≡ drainFrom (n - moves) kind keys top at moves s
 
 abbrev Inv-loop : tie.InvT-loop
-Inv-loop first₀ last₀ busy₀ keys next₀ back₀ kind chain top0 top1 masks n at₀ moves₀ first last busy next back at moves =
+Inv-loop first₀ last₀ busy₀ keys next₀ back₀ kind masks chain top0 top1 n at₀ moves₀ first last busy next back at moves =
     Turn kind keys (ordered kind top0 top1) n (links first₀ last₀ next₀ back₀ busy₀) at₀ (links first last next back busy) at moves
 
 abbrev μ-loop : tie.MeasureT-loop
-μ-loop first₀ last₀ busy₀ keys next₀ back₀ kind chain top0 top1 masks n at₀ moves₀ first last busy next back at moves =
+μ-loop first₀ last₀ busy₀ keys next₀ back₀ kind masks chain top0 top1 n at₀ moves₀ first last busy next back at moves =
     n - moves
-
-kind-masks-requires : tie.Need-kind-masks-requires Inv-loop μ-loop
-kind-masks-requires c κs = search needs
 
 mul-at : tie.Need-mul-at Inv-loop μ-loop
 mul-at c = search needs
@@ -57,19 +54,19 @@ element-write-last c = search needs
 
 -- before the loop: the chain is empty
 begun : (c : tie.After-unmark Inv-loop μ-loop)
-    → let x = c .before .before .before .before .before .before .before .args in
+    → let x = c .before .before .before .before .before .before .args in
     links (set (x .first .now) (x .chain) 0) (set (x .last .now) (x .chain) 0) (x .next .now) (x .back .now) (c .unmark .last .0)
     ≡ emptied (links (x .first .now) (x .last .now) (x .next .now) (x .back .now) (x .busy .now)) (x .chain)
 unfolding emptied
-begun c = let x = c .before .before .before .before .before .before .before .args in ap (links (set (x .first .now) (x .chain) 0) (set (x .last .now) (x .chain) 0) (x .next .now) (x .back .now)) (c .unmark .ensures)
+begun c = let x = c .before .before .before .before .before .before .args in ap (links (set (x .first .now) (x .chain) 0) (set (x .last .now) (x .chain) 0) (x .next .now) (x .back .now)) (c .unmark .ensures)
 
 loop-holds : tie.Need-loop-holds Inv-loop μ-loop
 loop-holds c =
-    let d = c .before .before .before .before .before .before .before in
+    let d = c .before .before .before .before .before .before in
     record {
       turns = search needs;
-      link = d .pre .0 .first .at (d .args .chain);
-      fine = subst (FineAt (length (d .args .next .now))) (sym (begun c)) (emptied-fine _ _ (d .args .chain) (d .pre .0));
+      link = d .pre .1 .0 .first .at (d .args .chain);
+      fine = subst (FineAt (length (d .args .next .now))) (sym (begun c)) (emptied-fine _ _ (d .args .chain) (d .pre .1 .0));
       same = simp sub-zero;
     }
 
@@ -90,14 +87,14 @@ slice-read-at c = search needs
 
 slot-distance-requires : tie.Need-slot-distance-requires Inv-loop μ-loop
 slot-distance-requires c κs =
-    (c .before .before .before .before .before .before .before .kind-masks .ensures, room-holds _ (c .before .before .before .before .before .before .before .before .before .before .before .pre .1 .0) (omega arith))
+    let p = c .before .before .before .before .before .before .before .before .before .before .pre in (p .0, room-holds _ (p .1 .1 .0) (omega arith))
 
 cast-append : tie.Need-cast-append Inv-loop μ-loop
 cast-append c = search needs
 
 append-requires : tie.Need-append-requires Inv-loop μ-loop
 append-requires c κs =
-    let x = c .before .before .before .before .before .before .before .before .before .before .before .before .before .before .before .before .before .args in
+    let x = c .before .before .before .before .before .before .before .before .before .before .before .before .before .before .before .before .args in
     let l = c .before .before .before .before .before .before .before .before .before .loop in
     (fine-of (l .inv .fine), (omega (arith, far-lt (x .kind) (slotKey (x .kind) (x .keys .now) (l .at - 1)) (ordered (x .kind) (x .top0) (x .top1)), c .before .before .before .before .before .slot-distance .ensures), omega arith))
 
@@ -110,7 +107,7 @@ loop-less c = search needs
 loop-again : tie.Need-loop-again Inv-loop μ-loop
 loop-again c =
     let l = c .before .before .before .before .before .before .before .before .before .before .before .before .before .before .loop in
-    let x = c .before .before .before .before .before .before .before .before .before .before .before .before .before .before .before .before .before .before .before .before .before .before .args in
+    let x = c .before .before .before .before .before .before .before .before .before .before .before .before .before .before .before .before .before .before .before .before .before .args in
     let n = length (x .next .now) in
     let top = ordered (x .kind) (x .top0) (x .top1) in
     let t : Links = links (l .first) (l .last) (l .next) (l .back) (l .busy) in
@@ -129,17 +126,17 @@ same-length-2 c = search needs
 
 -- what there was to do at the start is the whole
 whole : (c : tie.After-unmark Inv-loop μ-loop)
-    → let x = c .before .before .before .before .before .before .before .args in
+    → let x = c .before .before .before .before .before .before .args in
     drainChain (x .kind) (x .keys .now) (ordered (x .kind) (x .top0) (x .top1)) (x .chain) (links (x .first .now) (x .last .now) (x .next .now) (x .back .now) (x .busy .now))
     ≡ drainFrom (length (x .next .now)) (x .kind) (x .keys .now) (ordered (x .kind) (x .top0) (x .top1)) (getD (x .first .now) (x .chain) 0) 0
     (links (set (x .first .now) (x .chain) 0) (set (x .last .now) (x .chain) 0) (x .next .now) (x .back .now) (c .unmark .last .0))
 unfolding drainChain
-whole c = let x = c .before .before .before .before .before .before .before .args in ap (drainFrom (length (x .next .now)) (x .kind) (x .keys .now) _ (getD (x .first .now) (x .chain) 0) 0) (sym (begun c))
+whole c = let x = c .before .before .before .before .before .before .args in ap (drainFrom (length (x .next .now)) (x .kind) (x .keys .now) _ (getD (x .first .now) (x .chain) 0) 0) (sym (begun c))
 
 returns : tie.Need-returns Inv-loop μ-loop
 returns c =
     let l = c .before .loop in
-    let x = c .before .before .before .before .before .before .before .before .before .args in
+    let x = c .before .before .before .before .before .before .before .before .args in
     sym (whole (c .before .before) ∙ l .inv .same ∙ drain-end (x .kind) (x .keys .now) _ (l .at) (l .moves) _ (length (x .next .now) - l .moves) (omega arith))
 
 same-length-3 : tie.Need-same-length-3 Inv-loop μ-loop
@@ -151,7 +148,7 @@ same-length-4 c = search needs
 returns-2 : tie.Need-returns-2 Inv-loop μ-loop
 returns-2 c =
     let l = c .before .before .loop in
-    let x = c .before .before .before .before .before .before .before .before .before .before .args in
+    let x = c .before .before .before .before .before .before .before .before .before .args in
     sym (whole (c .before .before .before) ∙ l .inv .same ∙ drain-stop (x .kind) (x .keys .now) _ (l .at) (l .moves) _ (length (x .next .now) - l .moves) (c .if1 .taken))
 
 pub spread-spec : {M : Type 1} → statement M
@@ -160,7 +157,6 @@ spread-spec =
     (tie.spec
     Inv-loop
     μ-loop
-    kind-masks-requires
     mul-at
     element-copy-out-at
     unmark-requires
