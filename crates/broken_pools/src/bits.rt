@@ -30,13 +30,14 @@ fn kind_of_ends(number: u32) -> Kind {
 }
 
 // The top, and keys at distances 63 and 64 from it; of two words also at 127 and 128. The first words
-// of kind 5 are those of kind 2, and the second words those of kind 3.
+// of kind 5 are those of kind 2, and the second words those of kind 3. The floats are 2.0 and the zeros.
 fn keys(kind: u32) -> [u64; 10] {
     match kind {
         1 => [BOTH, HALF, 1, 0, 0, 0, 0, 0, 0, 0],
         2 => [QUARTER, 0, HALF, 0, 0, 0, 0, 0, 0, 0],
         3 => [0, QUARTER, HALF, 0, 0, 0, 0, 0, 0, 0],
         4 => [BOTH, BOTH, BOTH, HALF, BOTH, 1, HALF, 7, 1, 7],
+        6 => [QUARTER, 0, HALF, 0, 0, 0, 0, 0, 0, 0],
         _ => [QUARTER, 0, QUARTER, QUARTER, QUARTER, HALF, 0, 7, HALF, 7],
     }
 }

@@ -153,7 +153,7 @@ pub fn free(kind: u32) {
     }
 }
 
-// Code 1: a kind that is not 1 to 5, and "slice lengths unfit". Kind 5 is set with no table.
+// Code 1: a kind that is not 1 to 6, and "slice lengths unfit". Kind 5 is set with no table.
 pub fn unfit(kind: u32) {
     let k = words(kind);
     let s = with_top(kind);
@@ -166,8 +166,8 @@ pub fn unfit(kind: u32) {
     line(kind, b"the kind set to 0", examine(t, k, 5, 5, 5));
     t.head = of_kind(s.head, 5);
     line(kind, b"the kind set to 5", examine(t, k, 5, 5, 5));
-    t.head = of_kind(s.head, 6);
-    line(kind, b"the kind set to 6", examine(t, k, 5, 5, 5));
+    t.head = of_kind(s.head, 7);
+    line(kind, b"the kind set to 7", examine(t, k, 5, 5, 5));
 }
 
 // The head with another kind, and no table.

@@ -2,6 +2,7 @@
 // every kind of key. A line for each, with its code: 0 sound, 1 not fit, 2 not sound.
 mod bits;
 mod clauses;
+mod floats;
 mod mixed;
 mod sample;
 mod shown;
@@ -18,7 +19,7 @@ fn kind(k: u32) {
     clauses::unfit(k);
 }
 
-// Kinds 1 to 4 have no table.
+// Every kind but 5 has no table.
 fn bare_kind(k: u32) {
     kind(k);
     tables::in_another_kind(k);
@@ -38,6 +39,16 @@ fn mixed_kind() {
     mixed::each_bit_of_a_top();
 }
 
+fn float_kind() {
+    bare_kind(6);
+    floats::zeros();
+    floats::waiting_edges();
+    floats::bucket_edges();
+    floats::top_edges();
+    floats::each_bit_of_an_infinity();
+    floats::nowhere();
+}
+
 fn main() {
     bare_kind(1);
     bare_kind(2);
@@ -45,5 +56,6 @@ fn main() {
     bare_kind(4);
     clauses::second_words(4);
     mixed_kind();
+    float_kind();
     clauses::too_many_slots();
 }

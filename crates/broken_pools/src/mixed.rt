@@ -1,6 +1,7 @@
 // What only mixed keys can break: "packed high part first into the two words, unused high bits zero";
 // "a key with a bit set above its total is .. in a pool or top code 2"; "the pool has 2n key words".
 use crate::sample::Sample;
+use crate::sample::emptied;
 use crate::sample::examine;
 use crate::sample::planning;
 use crate::sample::waiting;
@@ -12,8 +13,6 @@ use crate::tables::zero_keys;
 use keys::REVERSED;
 use keys::SIGNED;
 use keys::Table;
-use pool::FREE;
-use pool::WAITING;
 ghost use Prim.Native.Nat.{_<_};
 
 // 2 ^ 56, the lowest bit above the planning desk's total, and all the bits below it.
@@ -163,15 +162,8 @@ fn in_a_key(table: Table, bit: usize) -> Sample {
 
 // and in the top of an empty pool.
 fn in_the_top(table: Table, bit: usize) -> Sample {
-    let mut s = zero_keys(table);
-    s.head.len = 0;
+    let mut s = emptied(zero_keys(table));
     s.head.topped = true;
-    s.first[WAITING] = 0;
-    s.last[WAITING] = 0;
-    s.first[FREE] = 1;
-    s.values = [0; 5];
-    s.next = [2, 3, 4, 5, 0];
-    s.back = [0; 5];
     let one = 1u64 << (bit % 64);
     if bit < 64 {
         s.head.top1 = one;

@@ -29,6 +29,11 @@ const URGENT: u64 = 50332168;
 
 const LATER: u64 = 50332175;
 
+// The floats -1.0 and -1.5.
+pub const MINUS_ONE: u64 = 13830554455654793216;
+
+const LOWER: u64 = 13832806255468478464;
+
 // The kind with this number: in kind 5 by the planning desk's table.
 pub fn kind_of(number: u32) -> Kind {
     if number == 5 {
@@ -52,12 +57,13 @@ pub fn words(kind: u32) -> usize {
 }
 
 // The words of three keys: two that are equal, the top, and a lower one. Kind 3 is reversed, and so is
-// the last part of kind 5, so that their lower key is the greater number.
+// the last part of kind 5; the floats are below zero. So their lower key is the greater number in words.
 pub fn keys(kind: u32) -> [u64; 10] {
     match kind {
         3 => [8, 8, 15, 0, 0, 0, 0, 0, 0, 0],
         4 => [8, 5, 8, 5, 7, 9, 0, 0, 0, 0],
         5 => [0, URGENT, 0, URGENT, 0, LATER, 0, 0, 0, 0],
+        6 => [MINUS_ONE, MINUS_ONE, LOWER, 0, 0, 0, 0, 0, 0, 0],
         _ => [8, 8, 7, 0, 0, 0, 0, 0, 0, 0],
     }
 }
@@ -70,6 +76,7 @@ pub fn bucket(kind: u32) -> usize
         3 => 3,
         4 => 68,
         5 => 3,
+        6 => 52,
         _ => 4,
     }
 }
@@ -80,12 +87,17 @@ pub fn busy(kind: u32) -> [u64; 3] {
         3 => [9, 0, 0],
         4 => [1, 16, 0],
         5 => [9, 0, 0],
+        6 => [4503599627370497, 0, 0],
         _ => [17, 0, 0],
     }
 }
 
 pub fn top0(kind: u32) -> u64 {
-    if kind == 5 { 0 } else { 8 }
+    match kind {
+        5 => 0,
+        6 => MINUS_ONE,
+        _ => 8,
+    }
 }
 
 pub fn top1(kind: u32) -> u64 {
@@ -149,6 +161,22 @@ pub fn waiting(kind: u32) -> Sample {
         next: [2, 3, 0, 5, 0],
         back: [0, 1, 2, 0, 0],
     }
+}
+
+// With no entry: all five slots are free.
+pub fn emptied(s: Sample) -> Sample {
+    let mut e = s;
+    e.head.len = 0;
+    e.first = [0; 131];
+    e.last = [0; 131];
+    e.busy = [0; 3];
+    e.first[pool::FREE] = 1;
+    e.last[pool::FREE] = 5;
+    e.keys = [0; 10];
+    e.values = [0; 5];
+    e.next = [2, 3, 4, 5, 0];
+    e.back = [0; 5];
+    e
 }
 
 // The examination of the first so many key words, values, next and back links.

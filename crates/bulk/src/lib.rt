@@ -11,7 +11,7 @@ pub use ordered::extend;
 pub use wide::Extended;
 pub use wide::extend_wide;
 
-// An entry: its key words and its value. In kinds 1 to 3 the second word is 0.
+// An entry: its key words and its value. In kinds of one word the second is 0.
 pub struct Entry {
     pub key0: u64,
     pub key1: u64,

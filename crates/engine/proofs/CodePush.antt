@@ -8,7 +8,8 @@ use borrow.Author.Tests.{ltb-true, ltb-false, le-leb, lt-leb, eq-eqb, ne-eqb}
 use lib.Dec.{ltb, eqb}
 use lib.ListN.{length, getD, set}
 use Rattle.rule.specs.Width.{distance}
-use Rattle.keys.specs.Ordered.{width, ordered, wellFormed, proper}
+use Rattle.keys.specs.Ordered.{width, ordered, wellFormed, nanKey, proper}
+use Rattle.keys.proofs.Ordered.{well-proper}
 use Rattle.keys.specs.declared.kind.Kind.{Kind}
 use Rattle.pool.specs.declared.state.Head.{Head}
 use Rattle.pool.specs.World.{waitingChain, freeChain, chainCount, Links, World, world, resized, storeKey, topOf, place, within}
@@ -40,18 +41,23 @@ module _ (kind : Kind) (a b : ℕ) where
   unfolding keyCode
   key-malformed e = rw e
 
-  pub key-done : wellFormed kind a b ≡ true → 0 ≡ keyCode kind a b
+  pub key-nan : wellFormed kind a b ≡ true → nanKey kind a ≡ true → 9 ≡ keyCode kind a b
   unfolding keyCode
-  key-done e = rw e
+  key-nan e f = rw (e, f)
+
+  pub key-done : wellFormed kind a b ≡ true → nanKey kind a ≡ false → 0 ≡ keyCode kind a b
+  unfolding keyCode
+  key-done e f = rw (e, f)
 
   -- a key that is told nothing may stand in a pool
   pub key-proper : keyCode kind a b ≡ 0 → proper kind a b ≡ true
-  unfolding keyCode proper
-  key-proper = go (wellFormed kind a b)
+  unfolding keyCode
+  key-proper = go (wellFormed kind a b) (nanKey kind a) refl refl
     where
-      go : (x : Bool) → _≡_ {A = ℕ} (cond x 0 5) 0 → x ≡ true
-      go true e = refl
-      go false e = absurd (omega arith)
+      go : (x y : Bool) → wellFormed kind a b ≡ x → nanKey kind a ≡ y → _≡_ {A = ℕ} (cond x (cond y 9 0) 5) 0 → proper kind a b ≡ true
+      go true false e f z = well-proper kind a b e f
+      go true true e f z = absurd (omega arith)
+      go false y e f z = absurd (omega arith)
 
 module _ (h : Head) (f a b : ℕ) where
   -- what the key is told, where that is not 0

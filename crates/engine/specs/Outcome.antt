@@ -3,7 +3,7 @@ use mathlib.Core.Bool.{Bool, true, false, cond, _&&_}
 use mathlib.Core.List.{List}
 use Prim.Native.Nat.{ℕ, zero, suc, _*_}
 use lib.Dec.{leb}
-use Rattle.keys.specs.Ordered.{words, wellFormed}
+use Rattle.keys.specs.Ordered.{words, wellFormed, nanKey}
 use Rattle.keys.specs.declared.kind.Kind.{Kind}
 use Rattle.pool.specs.World.{World}
 use Rattle.pool.specs.Examine.{examined}
@@ -39,9 +39,9 @@ unfoldable pub unless : ℕ → World → Outcome → Outcome
 unless zero w o = o
 unless (suc c) w o = refused w (suc c)
 
--- what a key by itself is told: 5 if it is not well-formed
+-- what a key by itself is told: 5 if it is not well-formed, then "a NaN key is new code 9, tested after 5 and before 6"
 unfoldable pub keyCode : Kind → ℕ → ℕ → ℕ
-keyCode kind a b = cond (wellFormed kind a b) 0 5
+keyCode kind a b = cond (wellFormed kind a b) (cond (nanKey kind a) 9 0) 5
 
 -- "Every call but the two fresh ones, the batch included, examines the whole pool once before it acts."
 unfoldable pub checked : World → Outcome → Outcome

@@ -17,13 +17,16 @@ pub struct Entered {
     pub head: Head,
 }
 
-// What a key by itself is told: code 5 for one that is not well-formed.
+// What a key by itself is told: code 5 for one that is not well-formed, then 9 for a NaN.
 pub fn key_code(kind: Kind, masks: Masks, key0: u64, key1: u64) -> u8
     requires { ⌜ Reads masks kind ⌝ }
     ensures { λ r. ⌜ r ≡ keyCode kind key0 key1 ⌝ }
 {
     if !keys::well_formed_by(kind, masks, key0, key1) {
         return pool::MALFORMED;
+    }
+    if keys::is_nan(kind, key0) {
+        return pool::NAN;
     }
     pool::DONE
 }

@@ -1,9 +1,19 @@
-// Bulk pushes at work: one that is taken, and one for each code by which an entry is refused.
+// Bulk pushes at work, of numbers and of floats: one that is taken, and one for each code by which an
+// entry is refused.
 mod door;
 mod sample;
 
 use bulk::Entry;
 use sample::Sample;
+
+// Float keys.
+const MINUS_ZERO: u64 = 9223372036854775808;
+
+const ONE: u64 = 4607182418800017408;
+
+const TWO: u64 = 4611686018427387904;
+
+const NAN: u64 = 9221120237041090560;
 
 struct Ran {
     code: u8,
@@ -107,7 +117,7 @@ fn show(text: &[u8], before: Sample, r: Ran) {
 }
 
 fn wide() {
-    let s = sample::fresh();
+    let s = sample::fresh(1, 10);
     let r = run_wide(s, [3, 9, 7], [0, 0, 0], [30, 90, 70]);
     let full = r.after;
     show(b"three entries", s, r);
@@ -129,7 +139,7 @@ fn wide() {
 }
 
 fn list() {
-    let s = sample::fresh();
+    let s = sample::fresh(1, 10);
     let r = run_list(s, three([3, 9, 7], [0, 0, 0], [30, 90, 70]));
     let full = r.after;
     show(b"a list of three entries", s, r);
@@ -150,7 +160,54 @@ fn list() {
     );
 }
 
+// A NaN is the first refused only where no entry before it is. It is told before the want of a slot.
+fn wide_floats() {
+    let s = sample::fresh(6, ONE);
+    let r = run_wide(s, [0, ONE, MINUS_ZERO], [0, 0, 0], [1, 2, 3]);
+    let full = r.after;
+    show(b"three floats", s, r);
+    show(
+        b"refused at the end, a NaN",
+        s,
+        run_wide(s, [0, ONE, NAN], [0, 0, 0], [1, 2, 3]),
+    );
+    show(
+        b"refused in the middle, above the top, before a NaN",
+        s,
+        run_wide(s, [0, TWO, NAN], [0, 0, 0], [1, 2, 3]),
+    );
+    show(
+        b"refused in the middle, a NaN where no slot is free",
+        full,
+        run_wide(full, [0, NAN, TWO], [0, 0, 1], [1, 2, 3]),
+    );
+}
+
+fn list_floats() {
+    let s = sample::fresh(6, ONE);
+    let r = run_list(s, three([0, ONE, MINUS_ZERO], [0, 0, 0], [1, 2, 3]));
+    let full = r.after;
+    show(b"a list of three floats", s, r);
+    show(
+        b"a list refused at the end, a NaN",
+        s,
+        run_list(s, three([0, ONE, NAN], [0, 0, 0], [1, 2, 3])),
+    );
+    show(
+        b"a list refused in the middle, above the top, before a NaN",
+        s,
+        run_list(s, three([0, TWO, NAN], [0, 0, 0], [1, 2, 3])),
+    );
+    show(
+        b"a list refused in the middle, a NaN where no slot is free",
+        full,
+        run_list(full, three([0, NAN, TWO], [0, 0, 1], [1, 2, 3])),
+    );
+}
+
 fn main() {
     wide();
     list();
+    wide_floats();
+    list_floats();
 }

@@ -11,15 +11,15 @@ pub struct Sample {
     pub back: [u32; 4],
 }
 
-// A fresh heap of kind 1 whose top is 10.
-pub fn fresh() -> Sample {
+// A fresh heap of this kind with this top.
+pub fn fresh(kind: u32, top: u64) -> Sample {
     let mut keys = [0u64; 4];
     let mut values = [0u64; 4];
     let mut next = [0u32; 4];
     let mut back = [0u32; 4];
     let r = heap::new_at(
-        Kind::bare(1),
-        10,
+        Kind::bare(kind),
+        top,
         0,
         &mut keys,
         &mut values,

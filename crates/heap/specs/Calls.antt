@@ -26,7 +26,7 @@ pushInto w a b v (s ∷ free) = done (record {
   values = set (w .values) s v;
 }) 0
 
--- 5 for the key by itself, then 6 for a key above the top, then 7 for no free slot
+-- 5 or 9 for the key by itself, then 6 for a key above the top, then 7 for no free slot
 unfoldable pub push : World → ℕ → ℕ → ℕ → Outcome
 push w a b v = unless (keyCode (w .head .kind) a b) w (elim (within (w .head .topped) (ordered (w .head .kind) a b) (topKey w)) [
   | false ↦ refused w 6

@@ -12,8 +12,8 @@ ghost use Rattle.engine.specs.Outcome.{answered};
 ghost use Rattle.heap.specs.Answers.{popAnswered};
 ghost use Rattle.heap.specs.Calls.{pushed, popped, constrained, cleared, clearedTo};
 
-// Takes an entry. Code 5 for a key that is not well-formed, 6 for a key above the top, 7 for no free
-// slot.
+// Takes an entry. Code 5 for a key that is not well-formed, 9 for a NaN, 6 for a key above the top, 7
+// for no free slot.
 pub fn push(
     state: State,
     keys: &mut [u64],
@@ -181,7 +181,7 @@ pub fn clear(
     }
 }
 
-// Drops every entry and makes this key the top. Code 5 for a key that is not well-formed.
+// Drops every entry and makes this key the top. Code 5 for a key that is not well-formed, 9 for a NaN.
 pub fn clear_to(
     state: State,
     keys: &mut [u64],

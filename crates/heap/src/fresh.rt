@@ -61,7 +61,8 @@ pub fn new(
     }
 }
 
-// An empty heap whose top is this key: no greater key will be taken.
+// An empty heap whose top is this key: no greater key will be taken. Code 5 for a key that is not
+// well-formed, 9 for a NaN.
 pub fn new_at(
     kind: Kind,
     key0: u64,

@@ -1,4 +1,5 @@
 // Keys made from their words and back, compared and measured: a line for each test, with its outcome.
+mod floats;
 mod mixed;
 mod rounds;
 
@@ -135,4 +136,5 @@ fn main() {
     other_lines();
     distance_lines();
     mixed::lines();
+    floats::lines();
 }

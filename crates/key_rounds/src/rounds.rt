@@ -1,5 +1,6 @@
 // A key made from its word or words gives them back, and a signed number comes back from its word. The
 // parts of a mixed key come back from its words, and its words from the parts.
+use keys::Float;
 use keys::Mixed;
 use keys::Pair;
 use keys::Parts;
@@ -23,6 +24,12 @@ pub fn reversed_round(w: u64) -> u64
     ensures { λ r. ⌜ r ≡ w ⌝ }
 {
     Reversed::from_word(w).word()
+}
+
+pub fn float_round(w: u64) -> u64
+    ensures { λ r. ⌜ r ≡ w ⌝ }
+{
+    Float::from_word(w).word()
 }
 
 pub fn signed_round(w: u64) -> u64

@@ -13,7 +13,7 @@ use Rattle.keys.proofs.ExamplesTable.{all, bytes, mixed}
 
 -- the words of kinds 4 and 5 are packed high word first; in another kind the first word is the key
 pub packed-words : all (eqb (packed (bare 4) 3 5) (3 * 2 ^ 64 + 5) ∷ eqb (packed (mixed 8 8 0 0) 3 5) (3 * 2 ^ 64 + 5) ∷ eqb (packed (bare 5) 3 5) (3 * 2 ^ 64 + 5)
-    ∷ eqb (packed (bare 1) 3 5) 3 ∷ eqb (packed (bare 2) 3 5) 3 ∷ eqb (packed (bare 3) 3 5) 3 ∷ eqb (packed (bare 255) 3 5) 3 ∷ []) ≡ true
+    ∷ eqb (packed (bare 1) 3 5) 3 ∷ eqb (packed (bare 2) 3 5) 3 ∷ eqb (packed (bare 3) 3 5) 3 ∷ eqb (packed (bare 6) 3 5) 3 ∷ eqb (packed (bare 255) 3 5) 3 ∷ []) ≡ true
 unfolding packed
 packed-words = refl
 
@@ -21,17 +21,17 @@ packed-words = refl
 abbrev reads : ℕ → ℕ → ℕ → ℕ → Bool
 reads n a b y = eqb (ordered (bare n) a b) y
 
--- kinds 1 to 4: the least key, the greatest, and some between; a kind that no heap has as kind 1, a table that does not fit as two words
+-- kinds 1 to 4 (ExamplesFloats has kind 6): the least key, the greatest, and some between; a kind that no heap has as kind 1, a table that does not fit as two words
 pub kind-forms : all (reads 1 0 0 0 ∷ reads 1 (2 ^ 64 - 1) 0 (2 ^ 64 - 1) ∷ reads 1 7 0 7
     ∷ reads 2 (2 ^ 63) 0 0 ∷ reads 2 (2 ^ 63 - 1) 0 (2 ^ 64 - 1) ∷ reads 2 0 0 (2 ^ 63) ∷ reads 2 (2 ^ 64 - 1) 0 (2 ^ 63 - 1)
     ∷ reads 3 (2 ^ 64 - 1) 0 0 ∷ reads 3 0 0 (2 ^ 64 - 1) ∷ reads 3 7 0 (2 ^ 64 - 8)
     ∷ reads 4 0 0 0 ∷ reads 4 (2 ^ 64 - 1) (2 ^ 64 - 1) (2 ^ 128 - 1) ∷ reads 4 7 9 (7 * 2 ^ 64 + 9)
-    ∷ reads 0 7 0 7 ∷ reads 255 7 0 7 ∷ reads 258 7 0 7 ∷ reads 259 7 0 7 ∷ reads 260 7 0 7 ∷ reads 261 7 0 7 ∷ eqb (ordered (mixed 64 65 10 0) 7 9) (7 * 2 ^ 64 + 9) ∷ []) ≡ true
+    ∷ reads 0 7 0 7 ∷ reads 255 7 0 7 ∷ reads 258 7 0 7 ∷ reads 259 7 0 7 ∷ reads 260 7 0 7 ∷ reads 261 7 0 7 ∷ reads 262 7 0 7 ∷ eqb (ordered (mixed 64 65 10 0) 7 9) (7 * 2 ^ 64 + 9) ∷ []) ≡ true
 unfolding ordered
 kind-forms = refl
 
 -- every other number of a kind is read as 1
-pub kinds-read : bytes (λ n. not (reads n 7 0 7)) ≡ 2 ∷ 3 ∷ 4 ∷ 5 ∷ []
+pub kinds-read : bytes (λ n. not (reads n 7 0 7)) ≡ 2 ∷ 3 ∷ 4 ∷ 5 ∷ 6 ∷ []
 unfolding bytes ordered
 kinds-read = refl
 

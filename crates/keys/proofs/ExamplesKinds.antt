@@ -2,7 +2,7 @@
 use mathlib.Core.Path.{_≡_, refl}
 use mathlib.Core.Bool.{Bool, true, not, _&&_}
 use mathlib.Core.List.{List, [], _∷_, map, length}
-use Prim.Native.Nat.{ℕ, _-_, _/_, _%_, _^_}
+use Prim.Native.Nat.{ℕ, _*_, _-_, _/_, _%_, _^_}
 use lib.Dec.{eqb}
 use Rattle.keys.specs.declared.kind.Kind.{Kind}
 use Rattle.keys.specs.Parts.{unsigned, signed, reversed, part}
@@ -29,8 +29,8 @@ pub parts-bare : map (λ (n : ℕ). parts (bare n)) (1 ∷ 2 ∷ 3 ∷ 4 ∷ 0 �
 unfolding parts
 parts-bare = refl
 
--- 64 bits in kinds 1 to 3, 128 in kind 4
-pub widths-bare : map (λ (n : ℕ). width (bare n)) (1 ∷ 2 ∷ 3 ∷ 4 ∷ 0 ∷ 260 ∷ 261 ∷ []) ≡ 64 ∷ 64 ∷ 64 ∷ 128 ∷ 64 ∷ 64 ∷ 64 ∷ []
+-- 64 bits in kinds 1 to 3 and 6, 128 in kind 4
+pub widths-bare : map (λ (n : ℕ). width (bare n)) (1 ∷ 2 ∷ 3 ∷ 4 ∷ 6 ∷ 0 ∷ 260 ∷ 261 ∷ []) ≡ 64 ∷ 64 ∷ 64 ∷ 128 ∷ 64 ∷ 64 ∷ 64 ∷ 64 ∷ []
 unfolding width
 widths-bare = refl
 
@@ -42,7 +42,7 @@ unfolding width
 widths = refl
 
 -- one word, in kind 4 two
-pub words-bare : map (λ (n : ℕ). words (bare n)) (1 ∷ 2 ∷ 3 ∷ 4 ∷ 0 ∷ 260 ∷ 261 ∷ []) ≡ 1 ∷ 1 ∷ 1 ∷ 2 ∷ 1 ∷ 1 ∷ 1 ∷ []
+pub words-bare : map (λ (n : ℕ). words (bare n)) (1 ∷ 2 ∷ 3 ∷ 4 ∷ 6 ∷ 0 ∷ 260 ∷ 261 ∷ []) ≡ 1 ∷ 1 ∷ 1 ∷ 2 ∷ 1 ∷ 1 ∷ 1 ∷ 1 ∷ []
 unfolding words
 words-bare = refl
 
@@ -63,23 +63,27 @@ widths-other = refl
 
 -- ---- well-formed keys
 
--- the greatest word
+-- the greatest word; as a float's pattern it is a NaN's, and minus infinity's is the greatest that is none
 abbrev most : ℕ
 most = 2 ^ 64 - 1
+
+abbrev minusInfinity : ℕ
+minusInfinity = 4095 * 2 ^ 52
 
 -- a test takes the greatest key: of 16, 56, 64, 72 and 128 bits, of a table that does not fit, of one word, of two
 abbrev takes : (Kind → ℕ → ℕ → Bool) → Bool
 takes test =
     all (test (mixed 8 8 0 0) 0 (2 ^ 16 - 1) ∷ test (mixed 32 16 10 0) 0 (2 ^ 56 - 1) ∷ test (mixed 34 33 0 0) 0 most
     ∷ test (mixed 64 8 0 0) 255 most ∷ test (mixed 8 64 0 0) 255 most ∷ test (mixed 66 65 0 0) most most ∷ test (mixed 64 64 8 0) most most
-    ∷ test (bare 1) most 0 ∷ test (bare 2) most 0 ∷ test (bare 3) most 0 ∷ test (bare 4) most most ∷ test (bare 5) most most ∷ test (bare 260) most 0 ∷ [])
+    ∷ test (bare 1) most 0 ∷ test (bare 2) most 0 ∷ test (bare 3) most 0 ∷ test (bare 4) most most ∷ test (bare 5) most most
+    ∷ test (bare 6) minusInfinity 0 ∷ test (bare 260) most 0 ∷ test (bare 262) most 0 ∷ [])
 
--- and no key with the bit above these set, or the highest bit of a word, or with a second word in kinds 1 to 3
+-- and no key with the bit above these set, or the highest bit of a word, or with a second word in kinds 1 to 3 and 6
 abbrev refuses : (Kind → ℕ → ℕ → Bool) → Bool
 refuses test =
     none (test (mixed 8 8 0 0) 0 (2 ^ 16) ∷ test (mixed 8 8 0 0) 1 0 ∷ test (mixed 8 8 0 0) 0 (2 ^ 63) ∷ test (mixed 32 16 10 0) 0 (2 ^ 56) ∷ test (mixed 32 16 10 0) 1 0
     ∷ test (mixed 34 33 0 0) 1 0 ∷ test (mixed 34 33 0 0) (2 ^ 63) 0 ∷ test (mixed 64 8 0 0) 256 0 ∷ test (mixed 8 64 0 0) 256 0 ∷ test (mixed 64 8 0 0) (2 ^ 63) 0
-    ∷ test (bare 1) 0 1 ∷ test (bare 2) 0 1 ∷ test (bare 3) 0 1 ∷ test (bare 1) 0 most ∷ test (bare 2) 0 most ∷ test (bare 3) 0 most ∷ test (bare 260) 0 1 ∷ test (bare 261) 0 1 ∷ [])
+    ∷ test (bare 1) 0 1 ∷ test (bare 2) 0 1 ∷ test (bare 3) 0 1 ∷ test (bare 1) 0 most ∷ test (bare 2) 0 most ∷ test (bare 3) 0 most ∷ test (bare 6) 0 1 ∷ test (bare 6) 0 most ∷ test (bare 6) most 1 ∷ test (bare 260) 0 1 ∷ test (bare 261) 0 1 ∷ [])
 
 -- "else code 5"
 pub well-formed : (takes (λ kind a b. wellFormed kind a b) && refuses (λ kind a b. wellFormed kind a b)) ≡ true

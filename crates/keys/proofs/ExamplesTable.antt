@@ -106,8 +106,8 @@ no-parts = refl
 
 -- ---- the kinds that a heap may have
 
--- with no table 1 to 4: not 0, not 5, not 6
-pub kinds-bare : bytes (λ n. kindFits (bare n)) ≡ 1 ∷ 2 ∷ 3 ∷ 4 ∷ []
+-- with no table 1 to 4 and 6: not 0, not 5, not 7
+pub kinds-bare : bytes (λ n. kindFits (bare n)) ≡ 1 ∷ 2 ∷ 3 ∷ 4 ∷ 6 ∷ []
 unfolding bytes kindFits
 kinds-bare = refl
 
@@ -125,13 +125,13 @@ alone n =
 abbrev only0 : List (List ℕ)
 only0 = (0 ∷ []) ∷ (0 ∷ []) ∷ (0 ∷ []) ∷ (0 ∷ []) ∷ []
 
--- kinds 1 to 4 have no entry that is not zero
-pub kinds-entries : map alone (1 ∷ 2 ∷ 3 ∷ 4 ∷ []) ≡ only0 ∷ only0 ∷ only0 ∷ only0 ∷ []
+-- kinds 1 to 4 and 6 have no entry that is not zero
+pub kinds-entries : map alone (1 ∷ 2 ∷ 3 ∷ 4 ∷ 6 ∷ []) ≡ only0 ∷ only0 ∷ only0 ∷ only0 ∷ only0 ∷ []
 unfolding bytes kindFits
 kinds-entries = refl
 
 -- no larger number, be it one of these in its low bits
-pub kinds-large : none (kindFits (bare 257) ∷ kindFits (bare 65537) ∷ kindFits (bare (2 ^ 31 + 1)) ∷ kindFits (bare (2 ^ 32 - 1))
+pub kinds-large : none (kindFits (bare 257) ∷ kindFits (bare 262) ∷ kindFits (bare 65537) ∷ kindFits (bare (2 ^ 31 + 1)) ∷ kindFits (bare (2 ^ 32 - 1))
     ∷ kindFits (tabled 261 8 8 0 0) ∷ kindFits (tabled (2 ^ 31 + 5) 8 8 0 0) ∷ kindFits (tabled (2 ^ 32 - 1) 8 8 0 0) ∷ []) ≡ true
 unfolding kindFits
 kinds-large = refl

@@ -1,5 +1,5 @@
 -- The kinds of keys: the table's equations, that ordered forms fit their width and tell well-formed keys apart, and what the
--- order and the distance of two keys are in their words. All follows from the laws of Parts.
+-- order and the distance of two keys are in their words. All follows from the laws of Parts, and for floats from those of Floats.
 use mathlib.Core.Path.{_≡_, refl, sym, ap, ap₂, subst, _∙_}
 use mathlib.Core.Bool.{Bool, true, false, cond, not, _&&_, _||_, true≢false, or-false}
 use mathlib.Core.List.{List, [], _∷_}
@@ -21,11 +21,13 @@ use Rattle.keys.specs.declared.kind.Table.{Table}
 use Rattle.keys.specs.declared.mask.Masks.{Masks}
 use Rattle.keys.specs.Parts.{Sort, unsigned, signed, reversed, Part, part, total, formed, field, form}
 use Rattle.keys.specs.Table.{oneWord, twoWords, tableParts, tableFits, isPart, mixedParts, bare}
-use Rattle.keys.specs.Ordered.{wordSort, isWide, words, parts, width, packed, pairForm, ordered, orderedNumber, wellFormed, proper}
+use Rattle.keys.specs.Floats.{floatForm, isNan}
+use Rattle.keys.specs.Ordered.{wordSort, isWide, words, parts, width, packed, pairForm, ordered, orderedNumber, wellFormed, nanKey, proper}
 use Rattle.keys.specs.Masks.{Masked, masked}
 use Rattle.keys.proofs.Order.{pair-fits, pair-order-first, pair-order-second}
 use Rattle.keys.proofs.Parts.{lead, form-cons, form-fits, form-flips, form-injective, form-keeps, form-words, formed-injective}
 use Rattle.keys.proofs.Twos.{moved-order, moved-injective}
+use Rattle.keys.proofs.Floats.{float-fits, float-injective, float-keeps}
 
 -- ---- the definitions, kind by kind
 module _ (kind : Kind) where
@@ -48,6 +50,10 @@ module _ (kind : Kind) where
   pub by-words : {P : Type 0} → (kind .number ≡ 4 → P) → (kind .number ≡ 5 → P) → (kind .number ≢ 4 → kind .number ≢ 5 → P) → P
   by-words pair mixed word = elim (ℕ-discrete (kind .number) 4) [ yes e ↦ pair e | no p ↦ elim (ℕ-discrete (kind .number) 5) [ yes e ↦ mixed e | no q ↦ word p q ] ]
 
+  -- and what holds of floats and of keys made of parts
+  by-float : {P : Type 0} → (kind .number ≡ 6 → P) → (kind .number ≢ 6 → P) → P
+  by-float float parts = elim (ℕ-discrete (kind .number) 6) [ yes e ↦ float e | no q ↦ parts q ]
+
   pub wide-pair : kind .number ≡ 4 → isWide kind ≡ true
   unfolding isWide
   wide-pair e = ap (λ (x : Bool). x || eqb (kind .number) 5) (eq-eqb (kind .number) 4 e)
@@ -60,7 +66,7 @@ module _ (kind : Kind) where
   unfolding isWide
   wide-word four five = ap₂ _||_ (ne-eqb (kind .number) 4 four) (ne-eqb (kind .number) 5 five)
 
-  -- of kinds 1 to 4 only pairs are
+  -- of all kinds but 5 only pairs are
   pub wide-bare : kind .number ≢ 5 → isWide kind ≡ eqb (kind .number) 4
   unfolding isWide
   wide-bare q = ap (λ (x : Bool). eqb (kind .number) 4 || x) (ne-eqb (kind .number) 5 q) ∙ or-false (eqb (kind .number) 4)
@@ -93,9 +99,19 @@ module _ (kind : Kind) where
   unfolding width
   width-word four five = ap total (parts-word four five)
 
-  pub ordered-parts : (a b : ℕ) → ordered kind a b ≡ form (parts kind) (packed kind a b)
+  -- of every kind but floats
+  pub ordered-parts : (a b : ℕ) → kind .number ≢ 6 → ordered kind a b ≡ form (parts kind) (packed kind a b)
   unfolding ordered
-  ordered-parts a b = refl
+  ordered-parts a b six = ap (λ (x : Bool). cond x (floatForm a) (form (parts kind) (packed kind a b))) (ne-eqb (kind .number) 6 six)
+
+  pub ordered-float : (a b : ℕ) → kind .number ≡ 6 → ordered kind a b ≡ floatForm a
+  unfolding ordered
+  ordered-float a b e = ap (λ (x : Bool). cond x (floatForm a) (form (parts kind) (packed kind a b))) (eq-eqb (kind .number) 6 e)
+
+  -- in a kind of one word the second does not count
+  pub ordered-second : (a b c : ℕ) → isWide kind ≡ false → ordered kind a b ≡ ordered kind a c
+  unfolding ordered
+  ordered-second a b c w = ap (λ (k : ℕ). cond (eqb (kind .number) 6) (floatForm a) (form (parts kind) k)) (packed-word a b w ∙ sym (packed-word a c w))
 
   pub well-formed-pair : (a b : ℕ) → kind .number ≡ 4 → wellFormed kind a b ≡ true
   unfolding wellFormed
@@ -132,7 +148,7 @@ mixed-total t = go (tableFits t) refl
 pub width-le : (kind : Kind) → width kind ≤ 128
 width-le kind = by-words kind (λ e. omega (arith, width-pair kind e)) (λ e. omega (arith, width-mixed kind e, mixed-total (kind .table))) (λ p q. omega (arith, width-word kind p q))
 
--- ---- document 01's table: kinds 1 to 4 are lists of one and two words
+-- ---- document 01's table: kinds 1 to 4 are lists of one and two words; and document 02's floats
 -- a key of one part is ordered as that part
 pub form-one : (w : ℕ) (s : Sort) {k : ℕ} → k < 2 ^ w → form (part w s ∷ []) k ≡ formed w s k
 unfolding form total lead field
@@ -142,35 +158,39 @@ pub form-two : {k : ℕ} → k < 2 ^ 128 → form twoWords k ≡ k
 unfolding form
 form-two {k} h = form-flips twoWords k ∙ xor-zero-r (k % 2 ^ 128) ∙ mod-eq-of-lt h
 
--- a key of one word: the second does not count, and nor does a table
-pub ordered-word : (kind : Kind) (a b : ℕ) → kind .number ≢ 4 → kind .number ≢ 5 → ordered kind a b ≡ form (oneWord (wordSort (kind .number))) a
-ordered-word kind a b four five = ordered-parts kind a b ∙ ap₂ form (parts-word kind four five) (packed-word kind a b (wide-word kind four five))
+-- a key of one part: the second word does not count, and nor does a table
+pub ordered-word : (kind : Kind) (a b : ℕ) → kind .number ≢ 4 → kind .number ≢ 5 → kind .number ≢ 6 → ordered kind a b ≡ form (oneWord (wordSort (kind .number))) a
+ordered-word kind a b four five six = ordered-parts kind a b six ∙ ap₂ form (parts-word kind four five) (packed-word kind a b (wide-word kind four five))
 
 pub ordered-pair : (kind : Kind) (a b : ℕ) → kind .number ≡ 4 → ordered kind a b ≡ form twoWords (a * 2 ^ 64 + b)
-ordered-pair kind a b e = ordered-parts kind a b ∙ ap₂ form (parts-pair kind e) (packed-wide kind a b (wide-pair kind e))
+ordered-pair kind a b e = ordered-parts kind a b (λ f. omega arith) ∙ ap₂ form (parts-pair kind e) (packed-wide kind a b (wide-pair kind e))
 
 pub ordered-mixed : (kind : Kind) (a b : ℕ) → kind .number ≡ 5 → ordered kind a b ≡ form (mixedParts (kind .table)) (a * 2 ^ 64 + b)
-ordered-mixed kind a b e = ordered-parts kind a b ∙ ap₂ form (parts-mixed kind e) (packed-wide kind a b (wide-mixed kind e))
+ordered-mixed kind a b e = ordered-parts kind a b (λ f. omega arith) ∙ ap₂ form (parts-mixed kind e) (packed-wide kind a b (wide-mixed kind e))
 
 module _ (a b : ℕ) (ha : a < 2 ^ 64) (hb : b < 2 ^ 64) where
   pub kind-1 : ordered (bare 1) a b ≡ a
   unfolding wordSort formed
-  kind-1 = ordered-word (bare 1) a b (λ e. omega arith) (λ e. omega arith) ∙ form-one 64 unsigned ha
+  kind-1 = ordered-word (bare 1) a b (λ e. omega arith) (λ e. omega arith) (λ e. omega arith) ∙ form-one 64 unsigned ha
 
   pub kind-2 : ordered (bare 2) a b ≡ (a + 2 ^ 63) % 2 ^ 64
   unfolding wordSort formed
-  kind-2 = ordered-word (bare 2) a b (λ e. omega arith) (λ e. omega arith) ∙ form-one 64 signed ha
+  kind-2 = ordered-word (bare 2) a b (λ e. omega arith) (λ e. omega arith) (λ e. omega arith) ∙ form-one 64 signed ha
 
   pub kind-3 : ordered (bare 3) a b ≡ 2 ^ 64 - 1 - a
   unfolding wordSort formed
-  kind-3 = ordered-word (bare 3) a b (λ e. omega arith) (λ e. omega arith) ∙ form-one 64 reversed ha
+  kind-3 = ordered-word (bare 3) a b (λ e. omega arith) (λ e. omega arith) (λ e. omega arith) ∙ form-one 64 reversed ha
 
   pub kind-4 : ordered (bare 4) a b ≡ a * 2 ^ 64 + b
   kind-4 = ordered-pair (bare 4) a b refl ∙ form-two (pair-fits 64 64 ha hb)
 
-pub kind-widths : (width (bare 1) ≡ 64) × (width (bare 2) ≡ 64) × (width (bare 3) ≡ 64) × (width (bare 4) ≡ 128)
+-- and floats
+pub kind-6 : (a b : ℕ) → ordered (bare 6) a b ≡ floatForm a
+kind-6 a b = ordered-float (bare 6) a b refl
+
+pub kind-widths : (width (bare 1) ≡ 64) × (width (bare 2) ≡ 64) × (width (bare 3) ≡ 64) × (width (bare 4) ≡ 128) × (width (bare 6) ≡ 64)
 unfolding width
-kind-widths = (refl, refl, refl, refl)
+kind-widths = (refl, refl, refl, refl, refl)
 
 -- ---- a key of words below 2 ^ 64, of any kind
 parts-fit : (kind : Kind) (k : ℕ) → form (parts kind) k < 2 ^ width kind
@@ -179,7 +199,9 @@ parts-fit kind k = form-fits (parts kind) k
 
 module _ (kind : Kind) (a b : ℕ) (ha : a < 2 ^ 64) (hb : b < 2 ^ 64) where
   pub ordered-fits : ordered kind a b < 2 ^ width kind
-  ordered-fits = subst (λ n. n < 2 ^ width kind) (sym (ordered-parts kind a b)) (parts-fit kind (packed kind a b))
+  ordered-fits = by-float kind
+      (λ e. rw (ordered-float kind a b e, width-word kind (λ f. omega arith) (λ f. omega arith)) (float-fits a))
+      (λ q. subst (λ n. n < 2 ^ width kind) (sym (ordered-parts kind a b q)) (parts-fit kind (packed kind a b)))
 
   pub packed-fits : wellFormed kind a b ≡ true → packed kind a b < 2 ^ width kind
   packed-fits wf = by-words kind
@@ -216,13 +238,25 @@ module _ (kind : Kind) (a b : ℕ) (ha : a < 2 ^ 64) (hb : b < 2 ^ 64) (c d : �
   unfolding width
   parts-keep = form-keeps (parts kind) (packed-fits kind a b ha hb wb) (packed-fits kind c d hc hd wd)
 
+  -- a float is packed as its pattern
+  float-packed : kind .number ≡ 6 → (packed kind a b ≡ a) × (packed kind c d ≡ c) × (width kind ≡ 64)
+  float-packed e =
+      let four : kind .number ≢ 4 = λ f. omega arith in
+      let five : kind .number ≢ 5 = λ f. omega arith in
+      let w = wide-word kind four five in
+      (packed-word kind a b w, packed-word kind c d w, width-word kind four five)
+
   -- the ordered form tells well-formed keys apart
   pub ordered-injective : ordered kind a b ≡ ordered kind c d → (a ≡ c) × (b ≡ d)
-  ordered-injective e = packed-injective (parts-same (sym (ordered-parts kind a b) ∙ e ∙ ordered-parts kind c d))
+  ordered-injective e = packed-injective (by-float kind
+      (λ f. let p = float-packed f in p .0 ∙ float-injective a c ha hc (sym (ordered-float kind a b f) ∙ e ∙ ordered-float kind c d f) ∙ sym (p .1))
+      (λ q. parts-same (sym (ordered-parts kind a b q) ∙ e ∙ ordered-parts kind c d q)))
 
   -- and two keys are as far apart as their packed numbers
   pub ordered-keeps : distance (width kind) (ordered kind a b) (ordered kind c d) ≡ distance (width kind) (packed kind a b) (packed kind c d)
-  ordered-keeps = ap₂ (distance (width kind)) (ordered-parts kind a b) (ordered-parts kind c d) ∙ parts-keep
+  ordered-keeps = by-float kind
+      (λ f. let p = float-packed f in rw (ordered-float kind a b f, ordered-float kind c d f, p .0, p .1, p .2) (float-keeps a c ha hc))
+      (λ q. ap₂ (distance (width kind)) (ordered-parts kind a b q) (ordered-parts kind c d q) ∙ parts-keep)
 
 -- ---- keys of one word and pairs, in their words
 
@@ -231,7 +265,7 @@ module _ (a b : ℕ) (ha : a < 2 ^ 64) (hb : b < 2 ^ 64) (c d : ℕ) (hc : c < 2
   pub distance-word : (kind : Kind) → kind .number ≢ 4 → kind .number ≢ 5 → distance (width kind) (ordered kind a b) (ordered kind c d) ≡ distance 64 a c
   distance-word kind p q =
       let w = wide-word kind p q in
-      ap₂ (distance (width kind)) (ordered-word kind a b p q ∙ sym (ordered-word kind a 0 p q)) (ordered-word kind c d p q ∙ sym (ordered-word kind c 0 p q))
+      ap₂ (distance (width kind)) (ordered-second kind a b 0 w) (ordered-second kind c d 0 w)
       ∙ ordered-keeps kind a 0 ha (pow-pos 64) c 0 hc (pow-pos 64) (well-formed-word kind a 0 p q) (well-formed-word kind c 0 p q)
       ∙ rw (packed-word kind a 0 w, packed-word kind c 0 w, width-word kind p q) refl
 
@@ -249,26 +283,29 @@ module _ (a b : ℕ) (ha : a < 2 ^ 64) (hb : b < 2 ^ 64) (c d : ℕ) (hc : c < 2
   order-second e = rw e (pair-order-second 64 c b d)
 
 -- ---- the typed keys: an ordered form is that of the key's one part
-pub ordered-formed : (kind : Kind) (a b : ℕ) → a < 2 ^ 64 → kind .number ≢ 4 → kind .number ≢ 5 → ordered kind a b ≡ formed 64 (wordSort (kind .number)) a
-ordered-formed kind a b ha four five = ordered-word kind a b four five ∙ form-one 64 (wordSort (kind .number)) ha
+pub ordered-formed : (kind : Kind) (a b : ℕ) → a < 2 ^ 64 → kind .number ≢ 4 → kind .number ≢ 5 → kind .number ≢ 6 → ordered kind a b ≡ formed 64 (wordSort (kind .number)) a
+ordered-formed kind a b ha four five six = ordered-word kind a b four five six ∙ form-one 64 (wordSort (kind .number)) ha
 
 pub as-signed-word : (kind : Kind) (a b : ℕ) → a < 2 ^ 64 → kind .number ≡ 2 → formed 64 signed a ≡ ordered kind a b
 unfolding wordSort
 as-signed-word kind a b ha e =
-    ap (λ (s : Sort). formed 64 s a) (sym (ap wordSort e)) ∙ sym (ordered-formed kind a b ha (λ f. omega arith) (λ f. omega arith))
+    ap (λ (s : Sort). formed 64 s a) (sym (ap wordSort e)) ∙ sym (ordered-formed kind a b ha (λ f. omega arith) (λ f. omega arith) (λ f. omega arith))
 
 pub as-reversed : (kind : Kind) (a b : ℕ) → a < 2 ^ 64 → kind .number ≡ 3 → formed 64 reversed a ≡ ordered kind a b
 unfolding wordSort
 as-reversed kind a b ha e =
-    ap (λ (s : Sort). formed 64 s a) (sym (ap wordSort e)) ∙ sym (ordered-formed kind a b ha (λ f. omega arith) (λ f. omega arith))
+    ap (λ (s : Sort). formed 64 s a) (sym (ap wordSort e)) ∙ sym (ordered-formed kind a b ha (λ f. omega arith) (λ f. omega arith) (λ f. omega arith))
 
 pub as-pair : (kind : Kind) (a b : ℕ) → a < 2 ^ 64 → b < 2 ^ 64 → kind .number ≡ 4 → pairForm a b ≡ ordered kind a b
 as-pair kind a b ha hb e = sym (ordered-pair kind a b e ∙ form-two (pair-fits 64 64 ha hb))
 
-pub as-plain : (kind : Kind) (a b : ℕ) → a < 2 ^ 64 → kind .number ≢ 2 → kind .number ≢ 3 → kind .number ≢ 4 → kind .number ≢ 5 → formed 64 unsigned a ≡ ordered kind a b
+pub as-float : (kind : Kind) (a b : ℕ) → kind .number ≡ 6 → floatForm a ≡ ordered kind a b
+as-float kind a b e = sym (ordered-float kind a b e)
+
+pub as-plain : (kind : Kind) (a b : ℕ) → a < 2 ^ 64 → kind .number ≢ 2 → kind .number ≢ 3 → kind .number ≢ 4 → kind .number ≢ 5 → kind .number ≢ 6 → formed 64 unsigned a ≡ ordered kind a b
 unfolding wordSort
-as-plain kind a b ha two three four five =
-    sym (ordered-formed kind a b ha four five
+as-plain kind a b ha two three four five six =
+    sym (ordered-formed kind a b ha four five six
     ∙ ap₂ (λ (x y : Bool). formed 64 (cond x reversed (cond y signed unsigned)) a) (ne-eqb (kind .number) 3 three) (ne-eqb (kind .number) 2 two))
 
 -- where the first words of pairs differ the second ones may be left unread
@@ -352,9 +389,26 @@ pub distance-mixed : (kind : Kind) (a b : ℕ) → a < 2 ^ 64 → b < 2 ^ 64 →
 distance-mixed kind a b ha hb c d hc hd = wider (width kind) (ordered kind a b) (ordered kind c d) (ordered-fits kind a b ha hb) (ordered-fits kind c d hc hd) (width-le kind)
 
 -- ---- keys that may stand in a pool
+and-left : (x y : Bool) → (x && y) ≡ true → x ≡ true
+and-left true y e = refl
+and-left false y e = e
+
 pub proper-well : (kind : Kind) (a b : ℕ) → proper kind a b ≡ true → wellFormed kind a b ≡ true
 unfolding proper
-proper-well kind a b e = e
+proper-well kind a b e = and-left (wellFormed kind a b) (not (nanKey kind a)) e
+
+-- no key but a float is a NaN, and plus zero is none
+pub nan-other : (kind : Kind) (a : ℕ) → kind .number ≢ 6 → nanKey kind a ≡ false
+unfolding nanKey
+nan-other kind a six = ap (λ (x : Bool). x && isNan a) (ne-eqb (kind .number) 6 six)
+
+pub nan-zero : (kind : Kind) → nanKey kind 0 ≡ false
+unfolding nanKey isNan
+nan-zero kind = elim (eqb (kind .number) 6) as (λ x. (x && false) ≡ false) [ true ↦ refl | false ↦ refl ]
+
+pub well-proper : (kind : Kind) (a b : ℕ) → wellFormed kind a b ≡ true → nanKey kind a ≡ false → proper kind a b ≡ true
+unfolding proper
+well-proper kind a b e f = ap₂ (λ (x y : Bool). x && not y) e f
 
 pub proper-second : (kind : Kind) (a b : ℕ) → proper kind a b ≡ true → isWide kind ≡ false → b ≡ 0
 proper-second kind a b e s = by-words kind
@@ -364,5 +418,6 @@ proper-second kind a b e s = by-words kind
 
 -- the words of a head with no top, and of a free slot
 pub proper-zero : (kind : Kind) → proper kind 0 0 ≡ true
-unfolding proper
-proper-zero kind = by-words kind (well-formed-pair kind 0 0) (λ e. well-formed-mixed kind 0 0 e ∙ lt-ltb 0 (2 ^ width kind) (pow-pos (width kind))) (well-formed-word kind 0 0)
+proper-zero kind = well-proper kind 0 0
+    (by-words kind (well-formed-pair kind 0 0) (λ e. well-formed-mixed kind 0 0 e ∙ lt-ltb 0 (2 ^ width kind) (pow-pos (width kind))) (well-formed-word kind 0 0))
+    (nan-zero kind)

@@ -251,16 +251,16 @@ ones-under x b c e f = subst (λ n. x < 2 ^ n) f (omega (arith, pow-pos b))
 module _ (kind : Kind) where
   pub kind-none : kind .number ≡ 0 → kindFits kind ≡ false
   unfolding kindFits
-  kind-none e = ap (λ (x : Bool). x && leb (kind .number) 5 && cond (eqb (kind .number) 5) (tableFits (kind .table)) (tableZero (kind .table))) (lt-leb 1 (kind .number) (omega arith))
+  kind-none e = ap (λ (x : Bool). x && leb (kind .number) 6 && cond (eqb (kind .number) 5) (tableFits (kind .table)) (tableZero (kind .table))) (lt-leb 1 (kind .number) (omega arith))
 
-  pub kind-past : kind .number ≢ 0 → 5 < kind .number → kindFits kind ≡ false
+  pub kind-past : kind .number ≢ 0 → 6 < kind .number → kindFits kind ≡ false
   unfolding kindFits
-  kind-past n l = ap₂ (λ (x y : Bool). x && y && cond (eqb (kind .number) 5) (tableFits (kind .table)) (tableZero (kind .table))) (le-leb 1 (kind .number) (omega arith)) (lt-leb (kind .number) 5 l)
+  kind-past n l = ap₂ (λ (x y : Bool). x && y && cond (eqb (kind .number) 5) (tableFits (kind .table)) (tableZero (kind .table))) (le-leb 1 (kind .number) (omega arith)) (lt-leb (kind .number) 6 l)
 
-  module _ (n : kind .number ≢ 0) (l : kind .number ≤ 5) where
+  module _ (n : kind .number ≢ 0) (l : kind .number ≤ 6) where
     kind-rest : kindFits kind ≡ cond (eqb (kind .number) 5) (tableFits (kind .table)) (tableZero (kind .table))
     unfolding kindFits
-    kind-rest = ap₂ (λ (x y : Bool). x && y && cond (eqb (kind .number) 5) (tableFits (kind .table)) (tableZero (kind .table))) (le-leb 1 (kind .number) (omega arith)) (le-leb (kind .number) 5 l)
+    kind-rest = ap₂ (λ (x y : Bool). x && y && cond (eqb (kind .number) 5) (tableFits (kind .table)) (tableZero (kind .table))) (le-leb 1 (kind .number) (omega arith)) (le-leb (kind .number) 6 l)
 
     pub kind-mixed : kind .number ≡ 5 → kindFits kind ≡ tableFits (kind .table)
     kind-mixed e = kind-rest ∙ ap (λ (x : Bool). cond x (tableFits (kind .table)) (tableZero (kind .table))) (eq-eqb (kind .number) 5 e)

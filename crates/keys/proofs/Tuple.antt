@@ -159,21 +159,21 @@ module _ (ps : List Part) (k l : ℕ) where
   pub packed-distance : distance (total ps) (form ps k) (form ps l) ≡ tupleDistance ps (fields ps k) (fields ps l)
   packed-distance = ap₂ (distance (total ps)) (form-fields ps k) (form-fields ps l) ∙ tuple-distance (fields-parted ps k) (fields-parted ps l)
 
--- ---- keys of every kind, by their words
-module _ (kind : Kind) (a b c d : ℕ) {ps : List Part} {k l : ℕ} (e : parts kind ≡ ps) (f : packed kind a b ≡ k) (g : packed kind c d ≡ l) where
+-- ---- keys of every kind that is made of parts, by their words
+module _ (kind : Kind) (six : kind .number ≢ 6) (a b c d : ℕ) {ps : List Part} {k l : ℕ} (e : parts kind ≡ ps) (f : packed kind a b ≡ k) (g : packed kind c d ≡ l) where
   order-as : ltb (ordered kind c d) (ordered kind a b) ≡ tupleAbove ps (fields ps k) (fields ps l)
-  order-as = ap₂ ltb (ordered-parts kind c d ∙ ap₂ form e g) (ordered-parts kind a b ∙ ap₂ form e f) ∙ packed-order ps k l
+  order-as = ap₂ ltb (ordered-parts kind c d six ∙ ap₂ form e g) (ordered-parts kind a b six ∙ ap₂ form e f) ∙ packed-order ps k l
 
   apart-as : distance (width kind) (ordered kind a b) (ordered kind c d) ≡ tupleDistance ps (fields ps k) (fields ps l)
   unfolding width
-  apart-as = distance-as (ap total e) (ordered-parts kind a b ∙ ap₂ form e f) (ordered-parts kind c d ∙ ap₂ form e g) ∙ packed-distance ps k l
+  apart-as = distance-as (ap total e) (ordered-parts kind a b six ∙ ap₂ form e f) (ordered-parts kind c d six ∙ ap₂ form e g) ∙ packed-distance ps k l
 
 module _ (kind : Kind) (a b c d : ℕ) where
-  pub kind-order : ltb (ordered kind c d) (ordered kind a b) ≡ tupleAbove (parts kind) (fields (parts kind) (packed kind a b)) (fields (parts kind) (packed kind c d))
-  kind-order = order-as kind a b c d refl refl refl
+  pub kind-order : kind .number ≢ 6 → ltb (ordered kind c d) (ordered kind a b) ≡ tupleAbove (parts kind) (fields (parts kind) (packed kind a b)) (fields (parts kind) (packed kind c d))
+  kind-order six = order-as kind six a b c d refl refl refl
 
-  pub kind-distance : distance (width kind) (ordered kind a b) (ordered kind c d) ≡ tupleDistance (parts kind) (fields (parts kind) (packed kind a b)) (fields (parts kind) (packed kind c d))
-  kind-distance = apart-as kind a b c d refl refl refl
+  pub kind-distance : kind .number ≢ 6 → distance (width kind) (ordered kind a b) (ordered kind c d) ≡ tupleDistance (parts kind) (fields (parts kind) (packed kind a b)) (fields (parts kind) (packed kind c d))
+  kind-distance six = apart-as kind six a b c d refl refl refl
 
   -- a mixed key follows its table
   module _ (five : kind .number ≡ 5) (fits : tableFits (kind .table) ≡ true) where
@@ -183,12 +183,12 @@ module _ (kind : Kind) (a b c d : ℕ) where
     pub mixed-order : ltb (ordered kind c d) (ordered kind a b) ≡ tupleAbove mixed (fields mixed (pairForm a b)) (fields mixed (pairForm c d))
     mixed-order =
         let w = wide-mixed kind five in
-        order-as kind a b c d (parts-mixed kind five ∙ mixed-fit (kind .table) fits) (packed-wide kind a b w) (packed-wide kind c d w)
+        order-as kind (λ f. omega arith) a b c d (parts-mixed kind five ∙ mixed-fit (kind .table) fits) (packed-wide kind a b w) (packed-wide kind c d w)
 
     pub mixed-distance : distance (width kind) (ordered kind a b) (ordered kind c d) ≡ tupleDistance mixed (fields mixed (pairForm a b)) (fields mixed (pairForm c d))
     mixed-distance =
         let w = wide-mixed kind five in
-        apart-as kind a b c d (parts-mixed kind five ∙ mixed-fit (kind .table) fits) (packed-wide kind a b w) (packed-wide kind c d w)
+        apart-as kind (λ f. omega arith) a b c d (parts-mixed kind five ∙ mixed-fit (kind .table) fits) (packed-wide kind a b w) (packed-wide kind c d w)
 
 -- kinds 1 to 3 are lists of one part, and kind 4 is a list of two
 word-fields : (s : Sort) {a : ℕ} → a < 2 ^ 64 → fields (oneWord s) a ≡ a ∷ []
@@ -202,32 +202,32 @@ pair-fields {a} {b} ha hb =
     ∙ fields-joined (some {p = part 64 unsigned} {x = a} ha (some {p = part 64 unsigned} {ps = []} {x = b} hb none))
 
 module _ (kind : Kind) (a b : ℕ) (ha : a < 2 ^ 64) (c d : ℕ) (hc : c < 2 ^ 64) where
-  module _ (four : kind .number ≢ 4) (five : kind .number ≢ 5) where
+  module _ (four : kind .number ≢ 4) (five : kind .number ≢ 5) (six : kind .number ≢ 6) where
     abbrev word : Sort
     word = wordSort (kind .number)
 
     pub word-order : ltb (ordered kind c d) (ordered kind a b) ≡ tupleAbove (oneWord word) (a ∷ []) (c ∷ [])
     word-order =
         let w = wide-word kind four five in
-        order-as kind a b c d (parts-word kind four five) (packed-word kind a b w) (packed-word kind c d w)
+        order-as kind six a b c d (parts-word kind four five) (packed-word kind a b w) (packed-word kind c d w)
         ∙ ap₂ (tupleAbove (oneWord word)) (word-fields word ha) (word-fields word hc)
 
     pub word-distance : distance (width kind) (ordered kind a b) (ordered kind c d) ≡ tupleDistance (oneWord word) (a ∷ []) (c ∷ [])
     word-distance =
         let w = wide-word kind four five in
-        apart-as kind a b c d (parts-word kind four five) (packed-word kind a b w) (packed-word kind c d w)
+        apart-as kind six a b c d (parts-word kind four five) (packed-word kind a b w) (packed-word kind c d w)
         ∙ ap₂ (tupleDistance (oneWord word)) (word-fields word ha) (word-fields word hc)
 
   module _ (hb : b < 2 ^ 64) (hd : d < 2 ^ 64) (four : kind .number ≡ 4) where
     pub pair-order : ltb (ordered kind c d) (ordered kind a b) ≡ tupleAbove twoWords (a ∷ b ∷ []) (c ∷ d ∷ [])
     pair-order =
         let w = wide-pair kind four in
-        order-as kind a b c d (parts-pair kind four) (packed-wide kind a b w) (packed-wide kind c d w) ∙ ap₂ (tupleAbove twoWords) (pair-fields ha hb) (pair-fields hc hd)
+        order-as kind (λ f. omega arith) a b c d (parts-pair kind four) (packed-wide kind a b w) (packed-wide kind c d w) ∙ ap₂ (tupleAbove twoWords) (pair-fields ha hb) (pair-fields hc hd)
 
     pub pair-distance : distance (width kind) (ordered kind a b) (ordered kind c d) ≡ tupleDistance twoWords (a ∷ b ∷ []) (c ∷ d ∷ [])
     pair-distance =
         let w = wide-pair kind four in
-        apart-as kind a b c d (parts-pair kind four) (packed-wide kind a b w) (packed-wide kind c d w) ∙ ap₂ (tupleDistance twoWords) (pair-fields ha hb) (pair-fields hc hd)
+        apart-as kind (λ f. omega arith) a b c d (parts-pair kind four) (packed-wide kind a b w) (packed-wide kind c d w) ∙ ap₂ (tupleDistance twoWords) (pair-fields ha hb) (pair-fields hc hd)
 
 -- ---- the number of kind 2's word is the one that the typed key `Signed` has by its contract
 pub word-number : (z : ℤ) (w : ℕ) → w < 2 ^ 64 → z +ℤ pos (2 ^ 63) ≡ pos (formed 64 signed w) → z ≡ partNumber (part 64 signed) w

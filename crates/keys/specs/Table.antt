@@ -56,7 +56,7 @@ tableZero t = eqb (t .first) 0 && eqb (t .second) 0 && eqb (t .third) 0 && eqb (
 -- a kind that a heap may have: "A table that breaks these limits, or isn't zero in another kind, is code 1"
 unfoldable pub kindFits : Kind → Bool
 unfolding tableFits tableZero
-kindFits kind = leb 1 (kind .number) && leb (kind .number) 5 && cond (eqb (kind .number) 5) (tableFits (kind .table)) (tableZero (kind .table))
+kindFits kind = leb 1 (kind .number) && leb (kind .number) 6 && cond (eqb (kind .number) 5) (tableFits (kind .table)) (tableZero (kind .table))
 
 -- four codes, high part first
 abbrev pub tableOf : ℕ → ℕ → ℕ → ℕ → Table

@@ -1,4 +1,4 @@
-// The kind of a heap's keys: its number, 1 to 5, and for kind 5 the table of a key's parts.
+// The kind of a heap's keys: its number, 1 to 6, and for kind 5 the table of a key's parts.
 ghost use mathlib.Core.Path.{_≡_};
 ghost use Rattle.keys.specs.Table.{tableOf, mixed, bare};
 

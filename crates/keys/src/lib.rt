@@ -1,11 +1,12 @@
-// The five kinds of key that a heap may hold: made from their words, compared and measured.
+// The six kinds of key that a heap may hold: made from their words, compared and measured.
 //
 // Each kind is a type of its own, so a plain key and a reversed one cannot be mixed. The calls of a
 // heap hand keys over as two words with the kind, its number and its table; `above` and `distance`
 // lead from there to the types. Any numbers may be handed in: no function that a caller needs has a
-// `requires`. No heap has a kind that is not 1 to 5, or a table that breaks its limits: they are
+// `requires`. No heap has a kind that is not 1 to 6, or a table that breaks its limits: they are
 // refused with code 1 before a key is compared. Here such a kind is read as 1, and such a table as
 // two words.
+mod float_key;
 mod kind;
 mod mask;
 mod mixed_key;
@@ -18,6 +19,7 @@ mod signed_key;
 mod table;
 mod word;
 
+pub use float_key::Float;
 pub use kind::Kind;
 pub use kind::REVERSED;
 pub use kind::SIGNED;
@@ -38,6 +40,7 @@ pub use reading::above_bare;
 pub use reading::above_by;
 pub use reading::distance_bare;
 pub use reading::distance_by;
+pub use reading::is_nan;
 pub use reading::is_proper_by;
 pub use reading::well_formed_by;
 pub use reversed_key::Reversed;
@@ -92,5 +95,8 @@ pub fn well_formed(kind: Kind, key0: u64, key1: u64) -> bool
 pub fn is_proper(kind: Kind, key0: u64, key1: u64) -> bool
     ensures { λ r. ⌜ r ≡ proper kind key0 key1 ⌝ }
 {
-    well_formed(kind, key0, key1)
+    if !well_formed(kind, key0, key1) {
+        return false;
+    }
+    !is_nan(kind, key0)
 }

@@ -62,7 +62,7 @@ pub fn table_fits(table: Table) -> bool
     three + bits(table.fourth) <= 128
 }
 
-// A kind that a heap may have: 1 to 5, with a table in kind 5 and none in any other.
+// A kind that a heap may have: 1 to 6, with a table in kind 5 and none in any other.
 pub fn kind_fits(kind: Kind) -> bool
     ensures { λ r. ⌜ r ≡ kindFits kind ⌝ }
 {
@@ -70,7 +70,7 @@ pub fn kind_fits(kind: Kind) -> bool
     if kind.number == 0 {
         return false;
     }
-    if 5 < kind.number {
+    if 6 < kind.number {
         return false;
     }
     if kind.number == 5 {

@@ -1,6 +1,6 @@
 -- What the code that holds a slot's key against another asks for, on plain values: where the first words decide, the second ones need not
 -- be read.
-use Prim.Native.Nat.{ℕ, _+_, _*_, _^_, _<_}
+use Prim.Native.Nat.{ℕ, _+_, _*_, _^_, _≤_, _<_}
 use mathlib.Core.Path.{_≡_, refl, sym, ap, _∙_}
 use mathlib.Core.Bool.{Bool, true, false, cond, not, _&&_, true≢false}
 use mathlib.Core.Logic.{_≢_}
@@ -14,7 +14,7 @@ use lib.Pow.{pow-pos}
 use Rattle.rule.specs.Width.{distance}
 use Rattle.keys.specs.declared.kind.Kind.{Kind}
 use Rattle.keys.specs.Ordered.{width, ordered, isWide, proper}
-use Rattle.keys.proofs.Ordered.{wide-word, well-formed-pair, well-formed-word, distance-unread, order-unread}
+use Rattle.keys.proofs.Ordered.{wide-word, well-formed-pair, well-formed-word, nan-other, well-proper, distance-unread, order-unread}
 use Rattle.pool.specs.World.{keyWord0, keyWord1, slotKey}
 use Rattle.pool.specs.Fine.{Holds}
 
@@ -31,12 +31,16 @@ unfolding keyWord1
 second-none kind keys s e = ap (λ (t : Bool). cond t (getD keys (2 * s + 1) 0) 0) e
 
 -- in kinds 1 to 4 whatever stands in a slot is a key
-pub bare-proper : (kind : Kind) (keys : List ℕ) (s : ℕ) → kind .number ≢ 5 → proper kind (keyWord0 kind keys s) (keyWord1 kind keys s) ≡ true
-unfolding proper
-bare-proper kind keys s five = elim (ℕ-discrete (kind .number) 4) [
-  | yes e ↦ well-formed-pair kind (keyWord0 kind keys s) (keyWord1 kind keys s) e
-  | no four ↦ well-formed-word kind (keyWord0 kind keys s) (keyWord1 kind keys s) four five ∙ ap (λ (n : ℕ). eqb n 0) (second-none kind keys s (wide-word kind four five))
-]
+pub bare-proper : (kind : Kind) (keys : List ℕ) (s : ℕ) → kind .number ≤ 4 → proper kind (keyWord0 kind keys s) (keyWord1 kind keys s) ≡ true
+bare-proper kind keys s l =
+    well-proper kind (keyWord0 kind keys s) (keyWord1 kind keys s)
+    (elim (ℕ-discrete (kind .number) 4) [
+      | yes e ↦ well-formed-pair kind (keyWord0 kind keys s) (keyWord1 kind keys s) e
+      | no four ↦
+          let five : kind .number ≢ 5 = λ e. omega arith in
+          well-formed-word kind (keyWord0 kind keys s) (keyWord1 kind keys s) four five ∙ ap (λ (n : ℕ). eqb n 0) (second-none kind keys s (wide-word kind four five))
+    ])
+    (nan-other kind (keyWord0 kind keys s) (λ e. omega arith))
 
 pub word1-fits : (kind : Kind) (keys : List ℕ) (s : ℕ) → getD keys (2 * s + 1) 0 < 2 ^ 64 → keyWord1 kind keys s < 2 ^ 64
 unfolding keyWord1

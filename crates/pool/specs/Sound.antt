@@ -20,7 +20,7 @@ pub record Typed (k : Links) : Type 0 where
   pub busies : length (k .busy) ≡ 3
   pub busyFits : (j : ℕ) → getD (k .busy) j 0 < 2 ^ 64
 
--- ---- code 1: "kind not 1 to 5, a table that breaks its limits or isn't zero in another kind, slice lengths unfit, n above 4,096"
+-- ---- code 1: "kind not 1 to 6, a table that breaks its limits or isn't zero in another kind, slice lengths unfit, n above 4,096"
 
 unfoldable pub limit : ℕ
 limit = 4096
@@ -64,7 +64,7 @@ pub record Sound (w : World) : Type 0 where
   pub zeroWord0 : (s : ℕ) → On s (chain w freeChain) → word0 w s ≡ 0
   pub zeroWord1 : (s : ℕ) → On s (chain w freeChain) → word1 w s ≡ 0
   pub zeroValue : (s : ℕ) → On s (chain w freeChain) → getD (w .values) s 0 ≡ 0
-  -- every key is one of the kind, and so is the top: no bit above a mixed key's total, one word in kinds 1 to 3
+  -- every key is one of the kind, and so is the top: no bit above a mixed key's total, one word in kinds 1 to 3 and 6, no NaN
   pub ofKind : (c : ℕ) → c < freeChain → (s : ℕ) → On s (chain w c) → proper (w .head .kind) (word0 w s) (word1 w s) ≡ true
   pub topOfKind : proper (w .head .kind) (w .head .top0) (w .head .top1) ≡ true
 

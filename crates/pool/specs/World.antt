@@ -148,7 +148,7 @@ unfoldable pub within : Bool → ℕ → ℕ → Bool
 within true k t = leb k t
 within false k t = true
 
--- a key that may stand under a head: "a key with a bit set above its total is .. in a pool or top code 2"
+-- a key that may stand under a head: "a key with a bit set above its total is .. in a pool or top code 2", "a NaN in a pool or top is code 2"
 abbrev pub admits : Head → ℕ → ℕ → Bool
 admits h a b = proper (h .kind) a b && within (h .topped) (ordered (h .kind) a b) (topOf h)
 

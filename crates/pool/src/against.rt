@@ -11,12 +11,12 @@ ghost use mathlib.Core.Logic.{_≢_};
 ghost use mathlib.Core.Bool.{not, _&&_};
 ghost use lib.Dec.{ltb, eqb};
 ghost use Rattle.rule.specs.Width.{distance};
-ghost use Rattle.keys.specs.Ordered.{width, ordered, proper};
+ghost use Rattle.keys.specs.Ordered.{width, ordered};
 ghost use Rattle.keys.specs.Masks.{Reads};
 ghost use Rattle.pool.specs.World.{keyWord0, keyWord1, slotKey};
 ghost use Rattle.pool.specs.Fine.{Holds};
 
-// The words of a slot's key, in kinds 1 to 4. In kind 5 the first is any word.
+// The words of a slot's key, in every kind but 5. There the first is any word.
 pub fn bare0(kind: Kind, keys: &[u64], slot: usize) -> u64
     requires { ⌜ Holds kind (now keys) slot ⌝ }
     ensures { λ r. ⌜ (kind .number ≢ 5 → r ≡ keyWord0 kind (now (keys .entry)) slot) ⌝ }
@@ -50,21 +50,8 @@ fn first_decides(kind: Kind, a0: u64, b0: u64) -> bool
     false
 }
 
-// Is the key of the slot one of the kind? Only a mixed key can have a bit too many: in kinds 1 to 3 a
-// slot has no second word.
-pub fn slot_is_proper(kind: Kind, masks: Masks, keys: &[u64], slot: usize) -> bool
-    requires { ⌜ Reads masks kind ⌝ }
-    requires { ⌜ Holds kind (now keys) slot ⌝ }
-    ensures { λ r. ⌜ r ≡ proper kind (keyWord0 kind (now (keys .entry)) slot) (keyWord1 kind (now (keys .entry)) slot) ⌝ }
-{
-    if kind.number == 5 {
-        return keys::is_proper_by(kind, masks, key0(kind, keys, slot), key1(kind, keys, slot));
-    }
-    true
-}
-
-// Is the key of the slot above the key with these words, in kinds 1 to 4?
-fn bare_above(kind: Kind, keys: &[u64], slot: usize, b0: u64, b1: u64) -> bool
+// Is the key of the slot above the key with these words, in every kind but 5?
+pub fn bare_above(kind: Kind, keys: &[u64], slot: usize, b0: u64, b1: u64) -> bool
     requires { ⌜ kind .number ≢ 5 ⌝ }
     requires { ⌜ Holds kind (now keys) slot ⌝ }
     ensures { λ r. ⌜ r ≡ ltb (ordered kind b0 b1) (slotKey kind (now (keys .entry)) slot) ⌝ }
@@ -94,7 +81,7 @@ pub fn slot_above(kind: Kind, masks: Masks, keys: &[u64], slot: usize, b0: u64, 
     bare_above(kind, keys, slot, b0, b1)
 }
 
-// Is the key of the slot above that of the other slot, whose first word is `b0`, in kinds 1 to 4?
+// Is the key of the slot above that of the other slot, whose first word is `b0`, in every kind but 5?
 fn bare_above_slot(kind: Kind, keys: &[u64], slot: usize, other: usize, b0: u64) -> bool
     requires { ⌜ kind .number ≢ 5 ⌝ }
     requires { ⌜ Holds kind (now keys) slot ⌝ }
@@ -142,8 +129,8 @@ pub fn slot_above_slot(
     bare_above_slot(kind, keys, slot, other, b0)
 }
 
-// How far is the key of the slot from the key with these words, in kinds 1 to 4?
-fn bare_distance(kind: Kind, keys: &[u64], slot: usize, b0: u64, b1: u64) -> u32
+// How far is the key of the slot from the key with these words, in every kind but 5?
+pub fn bare_distance(kind: Kind, keys: &[u64], slot: usize, b0: u64, b1: u64) -> u32
     requires { ⌜ kind .number ≢ 5 ⌝ }
     requires { ⌜ Holds kind (now keys) slot ⌝ }
     ensures { λ r. ⌜ r ≡ distance (width kind) (slotKey kind (now (keys .entry)) slot) (ordered kind b0 b1) ⌝ }

@@ -12,6 +12,7 @@ mod fresh;
 mod keywords;
 mod state;
 mod summary;
+mod walking;
 
 pub use along::greatest;
 pub use along::spread;
@@ -35,6 +36,7 @@ pub use state::FULL;
 pub use state::Head;
 pub use state::LIMIT;
 pub use state::MALFORMED;
+pub use state::NAN;
 pub use state::NO_ROOM;
 pub use state::RAGGED;
 pub use state::State;

@@ -26,6 +26,8 @@ pub const NO_ROOM: u8 = 4;
 
 pub const MALFORMED: u8 = 5;
 
+pub const NAN: u8 = 9;
+
 pub const ABOVE_TOP: u8 = 6;
 
 pub const FULL: u8 = 7;

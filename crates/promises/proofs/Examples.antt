@@ -11,7 +11,7 @@ use Rattle.rule.specs.Width.{distance, zeros}
 use Rattle.rule.specs.Calls.{refusal, taking}
 use Rattle.rule.specs.Rule.{bucketCount, empty, held, put, busy, stay, takeTail, greatest, spread, drain, drainSome, drainBucket, constrain as ruleConstrain, push as rulePush, pop as rulePop, served, serve}
 use Rattle.rule.specs.Ledger.{pushed as noting, moved, bound, opened, everyone, noted, leaving, entered, recordCall, bookAfter}
-use Rattle.keys.specs.Ordered.{isWide, width, words, ordered, wellFormed, proper}
+use Rattle.keys.specs.Ordered.{isWide, width, words, ordered, wellFormed, nanKey, proper}
 use Rattle.keys.specs.declared.kind.Kind.{Kind}
 use Rattle.keys.specs.declared.kind.Table.{Table}
 use Rattle.keys.specs.Table.{bare, mixed, tableOf, kindFits, tableZero}
@@ -126,6 +126,25 @@ job day road priority v = AskPush 0 (at day road priority) v
 abbrev givesJob : ℕ → ℕ → ℕ → ℕ → ℕ → List ℕ
 givesJob moves day road priority v = 0 ∷ moves ∷ 0 ∷ at day road priority ∷ v ∷ []
 
+-- M-108: floats by the field of their exponent; minus has the sign bit set. -0.0, 1.0, -1.0, the infinities and a NaN
+abbrev minus : ℕ → ℕ
+minus field = 2 ^ 63 + field * 2 ^ 52
+
+abbrev plus : ℕ → ℕ
+plus field = field * 2 ^ 52
+
+abbrev one : ℕ
+one = 1023
+
+abbrev infinity : ℕ
+infinity = 2047
+
+abbrev nan : ℕ
+nan = plus infinity + 1
+
+abbrev float : ℕ → ℕ → Ask
+float a v = AskPush a 0 v
+
 -- the codes of a fresh heap of such kinds, with four slots
 abbrev news : List Kind → List ℕ
 news = map (λ (k : Kind). started (lentOf k 4) New .code)
@@ -196,6 +215,27 @@ table =
     ((0 ∷ 0 ∷ 0 ∷ 1 ∷ 1 ∷ 1 ∷ 1 ∷ 1 ∷ []) ∷ (1 ∷ 1 ∷ 1 ∷ []) ∷ [])
     ∷ row ((made (mixed (tableOf 8 8 0 0)) (replicate 4 0) (replicate 4 0) (replicate 4 0) (replicate 4 0) .code ∷ started (lentOf jobs 4) (NewAt 0 (2 ^ 56)) .code ∷ []) ∷ [])
     ((1 ∷ 5 ∷ []) ∷ [])
+    -- M-108: "at top minus zero a push of plus zero is code 6", and a pushed -1.0 does not come first
+    ∷ row (callsAt 6 4 (minus 0) (float (plus 0) 1 ∷ float (minus one) 2 ∷ float (minus 0) 3 ∷ pops 2))
+    (no 6 ∷ ok ∷ ok ∷ gives 0 (minus 0) 3 ∷ gives 1 (minus one) 2 ∷ [])
+    -- "ordered as numbers, with minus zero just below plus zero"
+    ∷ row (calls 6 8 (float (minus one) 1 ∷ float (plus infinity) 2 ∷ float (plus 0) 3 ∷ float (minus infinity) 4 ∷ float (minus 0) 5 ∷ float (plus one) 6 ∷ pops 6))
+    (replicate 6 ok ++ gives 6 (plus infinity) 2 ∷ gives 2 (plus one) 6 ∷ gives 1 (plus 0) 3 ∷ gives 3 (minus 0) 5 ∷ gives 1 (minus one) 1 ∷ gives 1 (minus infinity) 4 ∷ [])
+    -- "A NaN key is new code 9, tested after 5 and before 6": with a second word, of clear_to, above the top, with no slot free
+    ∷ row (calls 6 1 (float nan 0 ∷ AskPush nan 1 0 ∷ AskClearTo nan 0 ∷ AskClearTo nan 1 ∷ AskClearTo (plus one) 0 ∷ float nan 0 ∷ float (plus infinity) 0 ∷ float (plus one) 7 ∷ float nan 0 ∷ AskPush (plus one) 1 0 ∷ float (plus one) 0 ∷ AskPop ∷ []))
+    (no 9 ∷ no 5 ∷ no 9 ∷ no 5 ∷ ok ∷ no 9 ∷ no 6 ∷ ok ∷ no 9 ∷ no 5 ∷ no 7 ∷ gives 0 (plus one) 7 ∷ [])
+    -- of new_at; and in kind 1 the pattern is a key like any other
+    ∷ row ((news (bare 6 ∷ bare 7 ∷ []) ++ map (λ (a : ℕ). started (lent 6 4) (NewAt a 0) .code) (nan ∷ minus 0 ∷ plus infinity ∷ [])) ∷ calls 1 4 (float nan 0 ∷ []))
+    ((0 ∷ 1 ∷ 9 ∷ 0 ∷ 0 ∷ []) ∷ ok ∷ [])
+    -- "a NaN in a pool or top is code 2": in a bucket, on the waiting chain and as the top, where an infinity may stand; and a second word of the top
+    ∷ row
+    (map (λ (w : World). examined w ∷ [])
+    (let held = pushed (begun (lent 6 4) (NewAt (plus 0) 0)) (minus one) 0 0 .world in
+    let waiting = pushed (begun (lent 6 4) New) (plus one) 0 0 .world in
+    let at = begun (lent 6 4) (NewAt (plus one) 0) in
+    written held (minus infinity) 0 ∷ written held (minus infinity + 1) 0 ∷ written held (2 ^ 64 - 1) 0
+    ∷ written waiting (plus infinity) 0 ∷ written waiting nan 0 ∷ topped at (plus infinity) 0 ∷ topped at nan 0 ∷ topped at (plus one) 1 ∷ []))
+    ((0 ∷ []) ∷ (2 ∷ []) ∷ (2 ∷ []) ∷ (0 ∷ []) ∷ (2 ∷ []) ∷ (0 ∷ []) ∷ (2 ∷ []) ∷ (2 ∷ []) ∷ [])
     ∷ []
 
 -- ---- compared number by number
@@ -219,5 +259,5 @@ hold [] = true
 hold (r ∷ rs) = alike (r .shows) (r .says) && hold rs
 
 examples : hold table ≡ true
-unfolding same alike hold table shown marks nine started startTop made madeAt blank outcome movesFrom pushed popped constrained cleared clearedTo topRead lenRead checked unless examined fitting headed scanned sameWords flag bits summary finish scan verifyBusy apart verify standsAt emptyAt okBusy okFree fits limit push pushInto pop popOut constrain headAfter leading clear clearTo top len refused done given fresh heap heapIn topIn withFree lay firstIn after before nextIn backIn chains busyChains width words ordered wellFormed isWide kindFits tableZero proper keyCode storeKey keyWord0 keyWord1 place within distance zeros empty bucketCount held put busy stay takeTail greatest spread drain drainSome drainBucket ruleConstrain rulePush rulePop served serve refusal taking noting moved bound opened everyone noted leaving entered recordCall bookAfter unlessTold callOf ahead callsOf
+unfolding same alike hold table shown marks nine started startTop made madeAt blank outcome movesFrom pushed popped constrained cleared clearedTo topRead lenRead checked unless examined fitting headed scanned sameWords flag bits summary finish scan verifyBusy apart verify standsAt emptyAt okBusy okFree fits limit push pushInto pop popOut constrain headAfter leading clear clearTo top len refused done given fresh heap heapIn topIn withFree lay firstIn after before nextIn backIn chains busyChains width words ordered wellFormed nanKey isWide kindFits tableZero proper keyCode storeKey keyWord0 keyWord1 place within distance zeros empty bucketCount held put busy stay takeTail greatest spread drain drainSome drainBucket ruleConstrain rulePush rulePop served serve refusal taking noting moved bound opened everyone noted leaving entered recordCall bookAfter unlessTold callOf ahead callsOf
 examples = refl

@@ -1,11 +1,11 @@
--- `pool::examination::is_free` meets its contract: each way out, by the tests that led there. Assumes nothing.
+-- `pool::walking::is_free` meets its contract: each way out, by the tests that led there. Assumes nothing.
 use mathlib.Core.Path.{sym, _∙_}
 use borrow.Author.Needs.{needs}
 use borrow.Author.Tests.{eq-eqb, ne-eqb}
 use Rattle.pool.specs.Examine.{emptyAt}
 use Rattle.pool.proofs.CodeExam.{empty-rest}
-use Rattle.pool.proofs.examination.is_free.Statement.{statement}
-use Rattle.pool.proofs.examination.is_free.Tie as tie
+use Rattle.pool.proofs.walking.is_free.Statement.{statement}
+use Rattle.pool.proofs.walking.is_free.Tie as tie
 
 mul-if1 : tie.Need-mul-if1
 mul-if1 c = search needs

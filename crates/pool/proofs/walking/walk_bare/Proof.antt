@@ -1,4 +1,4 @@
--- `pool::examination::walk_busy` meets its contract. The loop's invariant: what is left of the walk gives what the whole walk gives.
+-- `pool::walking::walk_bare` meets its contract. The loop's invariant: what is left of the walk gives what the whole walk gives.
 -- The measure is what is left of the budget. Assumes nothing.
 use mathlib.Core.Path.{refl, sym, _∙_}
 use mathlib.Core.List.{[]}
@@ -11,14 +11,14 @@ use Rattle.pool.specs.World.{links}
 use Rattle.pool.specs.Examine.{okBusy}
 use Rattle.pool.proofs.Fine.{room-holds}
 use Rattle.pool.proofs.CodeExam.{busy-out, busy-in, Turn, turn-again, turn-refused, turn-spent, turn-astray, turn-ends}
-use Rattle.pool.proofs.examination.walk_busy.Statement.{statement}
-use Rattle.pool.proofs.examination.walk_busy.Tie as tie
+use Rattle.pool.proofs.walking.walk_bare.Statement.{statement}
+use Rattle.pool.proofs.walking.walk_bare.Tie as tie
 
 abbrev Inv-loop : tie.InvT-loop
-Inv-loop head masks keys next back chain start end budget left₀ before₀ at₀ left before at = Turn (okBusy head (links [] [] next back []) keys chain) next end budget start left before at
+Inv-loop head keys next back chain start end budget left₀ before₀ at₀ left before at = Turn (okBusy head (links [] [] next back []) keys chain) next end budget start left before at
 
 abbrev μ-loop : tie.MeasureT-loop
-μ-loop head masks keys next back chain start end budget left₀ before₀ at₀ left before at = left
+μ-loop head keys next back chain start end budget left₀ before₀ at₀ left before at = left
 
 loop-holds : tie.Need-loop-holds Inv-loop μ-loop
 loop-holds c = record { few = search needs; link = c .before .before .before .fits .start .fits; same = refl }
@@ -37,8 +37,8 @@ returns c first last busy =
     let x = d .before .before .before .before .before .before .args in
     sym (turn-refused (l .inv) (d .before .loop-test .taken) (d .if1 .left) (busy-out (x .head) (links [] [] (x .next .now) (x .back .now) []) (x .keys .now) (x .chain) (l .before) (l .at - 1) (c .if2 .taken)))
 
-stands-requires : tie.Need-stands-requires Inv-loop μ-loop
-stands-requires c κs =
+stands-bare-requires : tie.Need-stands-bare-requires Inv-loop μ-loop
+stands-bare-requires c κs =
     let given = c .before .before .before .before .before .before .before .pre in
     (given .0, (search needs, room-holds _ (given .1 .0) (c .if2 .left)))
 
@@ -50,7 +50,7 @@ returns-2 c first last busy =
     let x = d .before .before .before .before .before .before .args in
     sym
     (turn-refused (l .inv) (d .before .loop-test .taken) (d .if1 .left)
-    (busy-in (x .head) (links [] [] (x .next .now) (x .back .now) []) (x .keys .now) (x .chain) (l .before) (l .at - 1) (c .before .before .if2 .left) (c .before .stands .ensures) ∙ not-true _ (c .if3 .taken)))
+    (busy-in (x .head) (links [] [] (x .next .now) (x .back .now) []) (x .keys .now) (x .chain) (l .before) (l .at - 1) (c .before .before .if2 .left) (c .before .stands-bare .ensures) ∙ not-true _ (c .if3 .taken)))
 
 mul-at : tie.Need-mul-at Inv-loop μ-loop
 mul-at c = search needs
@@ -69,7 +69,7 @@ loop-again c =
     let d = c .before .before .before .before in
     let l = d .before .before .loop in
     turn-again (l .inv) (d .before .loop-test .taken) (d .if1 .left)
-    (busy-in _ _ _ _ _ _ (c .before .before .before .if2 .left) (c .before .before .stands .ensures) ∙ not-false _ (c .before .if3 .left))
+    (busy-in _ _ _ _ _ _ (c .before .before .before .if2 .left) (c .before .before .stands-bare .ensures) ∙ not-false _ (c .before .if3 .left))
     (c .shared-slice-known4 .given (l .at - 1) .fits)
 
 returns-3 : tie.Need-returns-3 Inv-loop μ-loop
@@ -89,8 +89,8 @@ returns-5 : tie.Need-returns-5 Inv-loop μ-loop
 unfolding okBusy
 returns-5 c first last busy = sym (turn-ends (c .before .before .before .loop .inv) (c .before .if4 .left) (c .if5 .left))
 
-pub walk-busy-spec : {M : Type 1} → statement M
-walk-busy-spec =
+pub walk-bare-spec : {M : Type 1} → statement M
+walk-bare-spec =
     tie.close
     (tie.spec
     Inv-loop
@@ -99,7 +99,7 @@ walk-busy-spec =
     cast-i
     sub-i
     returns
-    stands-requires
+    stands-bare-requires
     returns-2
     mul-at
     shared-slice-read-at
