@@ -8,6 +8,7 @@
 --   Moving               the moves that calls report are the rule's
 --   Releasing, InTime    what is handed out while no clear comes
 --   Slots                when a push is refused; freed slots
+--   Codes                every call gives the first code that is due
 --   Batches              batches and bulk pushes are sequences of calls
 pub mod Standing
 pub mod Agrees
@@ -20,6 +21,7 @@ pub mod Moving
 pub mod Releasing
 pub mod InTime
 pub mod Slots
+pub mod Codes
 pub mod Batches
 pub mod Promises
 mod Examples

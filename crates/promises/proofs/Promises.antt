@@ -1,5 +1,5 @@
 -- The promises: the three demands and the safety office's sentence, as theorems about the public calls themselves. A fresh heap is
--- any that new or new_at made (code 0), of kinds 1 to 4 and with at most 4,096 slots; `asks` is any sequence of calls, malformed
+-- any that new or new_at made (code 0), of kinds 1 to 6 and with at most 4,096 slots; `asks` is any sequence of calls, malformed
 -- ones included. The words of the statements are in specs/; docs/PROMISES.md says the same in plain words.
 use mathlib.Core.Path.{_≡_, refl, sym, ap, _∙_, subst}
 use mathlib.Core.Logic.{_≢_, _↔_, _⊎_}
@@ -7,7 +7,6 @@ use mathlib.Core.List.{List, [], _∷_, _++_}
 use Prim.Native.Nat.{ℕ, zero, suc, _≤_, _<_}
 use lib.ListN.{getD}
 use Rattle.keys.specs.declared.kind.Kind.{Kind}
-use Rattle.keys.specs.Table.{bare}
 use Rattle.keys.specs.Table.{bare}
 use Rattle.rule.specs.Lists.{All, nil, sum}
 use Rattle.rule.specs.Calls.{Above, NotAbove, Answer}
@@ -37,6 +36,7 @@ use Rattle.promises.specs.Runs.{Entry, keyOf, Ask, AskPush, AskPop, AskC
 use Rattle.promises.specs.Plain.{callOf, callsOf, plainCall, plainAnswersTo}
 use Rattle.promises.specs.Fresh.{Lent, Start, New, NewAt, started, startTop, StartWords}
 use Rattle.promises.specs.Batches.{asksOf, bytesFrom, pushesOf}
+use Rattle.promises.specs.Codes.{CodesInOrder}
 use Rattle.promises.specs.Promised.{RefusedChangesNothing, topOn, Bounded, listIn, slots, begun, listAfter, ruleAfter, ruleMoves, takenBy, ledger, reported}
 use Rattle.promises.proofs.Holding.{Holds, holds-after, answers-next, answers-plain}
 use Rattle.promises.proofs.Begin.{new-exactly, new-at-exactly, start-holds, cleared-anew, clearedTo-anew, sound-holds}
@@ -44,6 +44,7 @@ use Rattle.promises.proofs.Moving.{stands-ruled, moves-ruled}
 use Rattle.promises.proofs.Releasing.{calls-fit, releases-descend}
 use Rattle.promises.proofs.InTime.{timely-after, releases-in-time}
 use Rattle.promises.proofs.Slots.{refused-exactly, serve-again}
+use Rattle.promises.proofs.Codes.{codes-in-order as first-codes}
 use Rattle.promises.proofs.Batches.{batch-runs, batch-words as words-of-batches, bulk-runs}
 
 -- ---- Demand 1: "Any pool, state, record or key may be handed in. .. A refused call changes no byte of state, pool or answers."
@@ -78,6 +79,10 @@ refused-changes-nothing = record {
     fresh-refused p New = calls-refused .new (p .kind) (p .keys) (p .values) (p .next) (p .back)
     fresh-refused p (NewAt a b) = calls-refused .newAt (p .kind) a b (p .keys) (p .values) (p .next) (p .back)
 
+-- "refuses with the number that document 01 fixes": each call with the first that is due, in the order 1 2 3 4 5 9 6 7 8
+pub codes-in-order : CodesInOrder
+codes-in-order = first-codes
+
 -- ---- Demand 2, of any sound world
 
 module _ {w : World} (h : Whole w) (a b v : ℕ) (p : keyCode (w .head .kind) a b ≡ 0) where
@@ -93,7 +98,7 @@ module _ {w : World} (h : Whole w) (a b v : ℕ) (p : keyCode (w .head .kind) a 
 
 -- ---- The demands from a fresh heap on
 
--- new is done exactly for kinds 1 to 5, kind 5 with a table within its limits, and a fit pool of at most 4,096 slots, and new_at if its key may stand besides
+-- new is done exactly for kinds 1 to 6, kind 5 with a table within its limits, and a fit pool of at most 4,096 slots, and new_at if its key may stand besides
 pub new-done-exactly : (p : Lent) → (started p New .code ≡ 0) ↔ Fit (blank (p .kind) (p .keys) (p .values) (p .next) (p .back))
 new-done-exactly = new-exactly
 
