@@ -1,6 +1,7 @@
 //! The same records to the crate and to the port, and every byte of the answers compared.
 
 use crate::fail;
+use crate::floats::{around, each_nan, each_pattern, has_both, zeros, MINUS_ZERO, PLUS_ZERO};
 use crate::judge::crate_says;
 use crate::streams::{each_bit, stream, Dice, Stream, Table, NO_TABLE, SLOTS};
 use crate::tuples::TABLES;
@@ -9,7 +10,7 @@ use std::io::Write;
 use std::process::{Command, Stdio};
 
 /// The answers that the port gives: the program `mirror`, with the kind, the table and the slots before the records.
-fn port_says(mirror: &[&str], stream: &Stream) -> Vec<u8> {
+pub fn port_says(mirror: &[&str], stream: &Stream) -> Vec<u8> {
     let mut input = Vec::with_capacity(12 + 32 * stream.records.len());
     input.extend_from_slice(&stream.kind.to_le_bytes());
     input.extend_from_slice(&stream.table);
@@ -52,6 +53,9 @@ fn show(mirror: &[&str], s: &Stream) {
     println!("kind {}, table {:?}, {} slots, {} records:", s.kind, s.table, s.slots, s.records.len());
     for (i, r) in s.records.iter().enumerate() {
         println!("  {i}: op {} rest {} key {} {} value {}", r.op, r.rest, r.key0, r.key1, r.value);
+        if s.kind == 6 {
+            println!("     the key is {:016x}, {:e}", r.key0, f64::from_bits(r.key0));
+        }
         for (who, says) in [("crate", &a), ("port ", &b)] {
             println!("     {who} {:02x?}", says.get(40 * i..40 * i + 40).unwrap_or(says));
         }
@@ -76,14 +80,50 @@ fn of_parts(dice: &mut Dice, round: usize) -> Vec<Stream> {
     all
 }
 
+/// A round of kind 6 with each number of slots, every bit of a number, NaNs against the other codes, and either zero.
+fn of_floats(dice: &mut Dice, _: usize) -> Vec<Stream> {
+    let mut all: Vec<_> = SLOTS.iter().map(|&slots| of_any_length(dice, 6, NO_TABLE, slots)).collect();
+    let slots = dice.of(&[257, 4096]);
+    all.extend([each_pattern(dice, slots), each_nan(), around(PLUS_ZERO), around(MINUS_ZERO)]);
+    all
+}
+
+/// How many streams and records of kind 6 have plus zero as a key, and how many minus zero.
+#[derive(Default)]
+struct Zeros {
+    streams: [u64; 2],
+    records: [u64; 2],
+}
+
+impl Zeros {
+    fn count(&mut self, s: &Stream) {
+        if has_both(s) {
+            fail("a stream has both zeros");
+        }
+        for (i, n) in zeros(s).into_iter().enumerate() {
+            self.streams[i] += (n > 0) as u64;
+            self.records[i] += n;
+        }
+    }
+
+    fn print(&self) {
+        for (i, name) in ["plus", "minus"].iter().enumerate() {
+            println!("{name} zero: the key of {} records, in {} streams", self.records[i], self.streams[i]);
+        }
+    }
+}
+
 /// Rounds until so many records were compared.
 fn pass(what: &str, rounds: fn(&mut Dice, usize) -> Vec<Stream>, wanted: u64, seed: u64, mirror: &[&str]) {
     let mut dice = Dice(seed);
     let (mut records, mut streams, mut told, mut round) = (0u64, 0u64, 0u64, 0);
-    let (mut codes, mut tables) = ([0u64; 9], HashSet::new());
+    let (mut codes, mut tables, mut zeros) = ([0u64; 10], HashSet::new(), None);
     println!("{what}, seed {seed}");
     while records < wanted {
         for s in rounds(&mut dice, round) {
+            if s.kind == 6 {
+                zeros.get_or_insert_with(Zeros::default).count(&s);
+            }
             let says = crate_says(&s);
             if says != port_says(mirror, &s) {
                 println!("the answers differ in stream {streams}; the shortest that was found:");
@@ -106,10 +146,16 @@ fn pass(what: &str, rounds: fn(&mut Dice, usize) -> Vec<Stream>, wanted: u64, se
     if !tables.contains(&NO_TABLE) {
         println!("tables used: {}", tables.len());
     }
+    if let Some(zeros) = zeros {
+        zeros.print();
+    }
 }
 
-/// So many records of kinds 1 to 4, and by dice of its own as many of kind 5.
+/// So many records of kinds 1 to 4, by dice of its own as many of kind 5, and so of kind 6 if it has a judge.
 pub fn compare(wanted: u64, seed: u64, mirror: &[&str]) {
     pass("kinds 1 to 4", of_words, wanted, seed, mirror);
     pass("kind 5", of_parts, wanted, seed, mirror);
+    if cfg!(floats) {
+        pass("kind 6", of_floats, wanted, seed, mirror);
+    }
 }

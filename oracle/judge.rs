@@ -1,5 +1,6 @@
 //! The crate as the judge: the answers that it gives to a stream.
 
+use crate::floats::float_says;
 use crate::streams::Stream;
 use crate::tuples::tuple_says;
 use radix_heap::{Radix, RadixHeapMap};
@@ -21,7 +22,7 @@ impl<K: Radix> Radix for Counted<K> {
     const RADIX_BITS: u32 = K::RADIX_BITS;
 }
 
-/// The kinds of key, from their words and back. Those of kinds 4 and 5 are tuples (`tuples`).
+/// The kinds of key, from their words and back. Those of kinds 4 and 5 are tuples (`tuples`), those of kind 6 `floats`.
 pub trait Key: Radix + Ord + Copy {
     fn from_words(first: u64, second: u64) -> Self;
     fn words(self) -> (u64, u64);
@@ -77,6 +78,8 @@ pub fn expected<K: Key>(stream: &Stream) -> Vec<u8> {
         let (mut code, mut present, mut moves, mut key, mut value) = (0u8, 0u8, 0u32, (0, 0), 0u64);
         if !r.formed(stream.kind, stream.table) {
             code = 5;
+        } else if r.is_nan(stream.kind) {
+            code = 9;
         } else {
             let k = Counted::<K>::from_words(r.key0, r.key1);
             match r.op {
@@ -118,6 +121,7 @@ pub fn crate_says(stream: &Stream) -> Vec<u8> {
         2 => expected::<i64>(stream),
         3 => expected::<Reverse<u64>>(stream),
         4 => expected::<(u64, u64)>(stream),
+        6 => float_says(stream),
         _ => tuple_says(stream),
     }
 }

@@ -97,7 +97,7 @@ impl Port {
             first: [0; 131],
             last: [0; 131],
             busy: [0; 3],
-            keys: vec![0; if kind >= 4 { 2 * slots } else { slots }],
+            keys: vec![0; if matches!(kind, 4 | 5) { 2 * slots } else { slots }],
             values: vec![0; slots],
             next: vec![0; slots],
             back: vec![0; slots],

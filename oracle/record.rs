@@ -1,12 +1,14 @@
 //! A sample of the crate's answers, written down so that a test of the port needs no Rust: the stored run of the program `replay`.
 
 use crate::fail;
+use crate::floats::{around, each_nan, each_pattern, has_both, MINUS_ZERO, PLUS_ZERO};
 use crate::judge::crate_says;
 use crate::streams::{each_bit, full, lone, stream, Dice, Stream, Table, NO_TABLE, SLOTS};
 use crate::tuples::TABLES;
 use std::path::Path;
 
-/// The lengths of the four streams that each kind and number of slots get, and of those of kind 5, each with the next table.
+/// The lengths of the four streams that each kind and number of slots get, and of those of kind 5, each with the next table, and
+/// of kind 6.
 const LENGTHS: [usize; 4] = [1, 5, 16, 50];
 const SHORTER: [usize; 4] = [1, 4, 10, 16];
 
@@ -44,6 +46,24 @@ const UNFIT: [(u32, Table, u32); 17] = [
     (4, [0, 0, 0, 8], 16),
 ];
 
+/// No kind, and kind 6 with a table and with too many slots: refused in the same way.
+const UNFIT_FLOATS: [(u32, Table, u32); 3] = [(7, NO_TABLE, 16), (6, [64, 0, 0, 0], 16), (6, NO_TABLE, 4097)];
+
+fn is_unfit(s: &Stream) -> bool {
+    UNFIT.iter().chain(&UNFIT_FLOATS).any(|&unfit| unfit == (s.kind, s.table, s.slots))
+}
+
+/// Streams of kind 6, the refused ones among them. They come last, so that those before are what they were without them.
+fn floats(dice: &mut Dice) -> Vec<Stream> {
+    let mut all = Vec::new();
+    for slots in SLOTS {
+        all.extend(SHORTER.map(|length| stream(dice, 6, NO_TABLE, slots, length)));
+    }
+    all.extend([lone(6, NO_TABLE, 16), each_nan(), each_pattern(dice, 257), around(PLUS_ZERO), around(MINUS_ZERO)]);
+    all.extend(UNFIT_FLOATS.map(|(kind, table, slots)| Stream { table, ..stream(dice, kind, NO_TABLE, slots, 1) }));
+    all
+}
+
 fn streams(dice: &mut Dice) -> Vec<Stream> {
     let mut all = Vec::new();
     for kind in 1..=4 {
@@ -60,6 +80,7 @@ fn streams(dice: &mut Dice) -> Vec<Stream> {
     }
     // the last has one slot less than it pushes
     all.extend([lone(5, DESK, 16), each_bit(DESK, 257, 56), each_bit(WHOLE, 127, 127)]);
+    all.extend(floats(dice));
     all
 }
 
@@ -67,15 +88,18 @@ fn streams(dice: &mut Dice) -> Vec<Stream> {
 pub fn record(folder: &Path, seed: u64) {
     let (mut input, mut output) = (Vec::new(), Vec::new());
     let mut dice = Dice(seed);
-    let (mut records, mut codes) = (0, [0; 9]);
+    let (mut records, mut codes) = (0, [0; 10]);
     let all = streams(&mut dice);
     for s in &all {
         let [kind, slots, length] = [s.kind, s.slots, s.records.len() as u32].map(u32::to_le_bytes);
         [kind, s.table, slots, length].iter().for_each(|four| input.extend_from_slice(four));
         s.bytes(&mut input);
-        if UNFIT.contains(&(s.kind, s.table, s.slots)) {
+        if is_unfit(s) {
             output.push(1);
             continue;
+        }
+        if s.kind == 6 && has_both(s) {
+            fail("a stream has both zeros");
         }
         let says = crate_says(s);
         says.chunks(40).for_each(|a| codes[a[0] as usize] += 1);
@@ -87,6 +111,7 @@ pub fn record(folder: &Path, seed: u64) {
     for (name, bytes) in [("stdin", &input), ("stdout", &output)] {
         std::fs::write(folder.join(name), bytes).unwrap_or_else(|e| fail(&format!("{}: {e}", folder.join(name).display())));
     }
-    println!("seed {seed}: {records} records in {} streams, {} and {} bytes", all.len() - UNFIT.len(), input.len(), output.len());
+    let judged = all.iter().filter(|s| !is_unfit(s)).count();
+    println!("seed {seed}: {records} records in {judged} streams, {} and {} bytes", input.len(), output.len());
     println!("answers by code: {codes:?}");
 }

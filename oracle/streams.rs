@@ -1,5 +1,7 @@
 //! Streams of records, by dice.
 
+use crate::floats::{is_nan, Floats};
+
 /// splitmix64
 #[derive(Clone)]
 pub struct Dice(pub u64);
@@ -37,8 +39,18 @@ impl Record {
         }
     }
 
+    /// A push or a clear_to.
+    pub fn has_key(&self) -> bool {
+        matches!(self.op, 1 | 5)
+    }
+
+    /// Document 02: in kind 6 a key that is a NaN is refused, if the record is well-formed.
+    pub fn is_nan(&self, kind: u32) -> bool {
+        kind == 6 && self.has_key() && is_nan(self.key0)
+    }
+
     /// Document 01: known operation, unused fields zero, the second word zero in kinds 1 to 3. Document 02: in kind 5 no bit
-    /// above the parts' total.
+    /// above the parts' total, and in kind 6 the second word as in kinds 1 to 3.
     #[inline]
     pub fn formed(&self, kind: u32, table: Table) -> bool {
         let proper = match kind {
@@ -59,7 +71,7 @@ impl Record {
 /// The codes of a mixed key's parts, high part first: a part's bits, plus 0 unsigned, 1 signed, 2 reversed; 0 for no part.
 pub type Table = [u8; 4];
 
-/// The table of kinds 1 to 4.
+/// The table of every kind but 5.
 pub const NO_TABLE: Table = [0; 4];
 
 /// How many bits the part with this code has.
@@ -124,14 +136,19 @@ fn part(dice: &mut Dice, bits: u32, style: u64, time: u64) -> u64 {
         }
 }
 
-/// How a stream's keys are drawn: by words, or part by part in a style for each place, which may be another one each time.
+/// How a stream's keys are drawn: by words, or part by part in a style for each place, which may be another one each time, or as
+/// floats.
 enum Keys {
     Words { kind: u32, style: u64 },
     Parts { table: Table, styles: [u64; 4] },
+    Floats(Floats),
 }
 
 impl Keys {
     fn new(dice: &mut Dice, kind: u32, table: Table) -> Self {
+        if kind == 6 {
+            return Keys::Floats(Floats::new(dice));
+        }
         if table == NO_TABLE {
             return Keys::Words { kind, style: dice.below(5) };
         }
@@ -139,25 +156,27 @@ impl Keys {
     }
 
     fn next(&self, dice: &mut Dice, time: u64) -> (u64, u64) {
-        match *self {
-            Keys::Words { kind, style } => {
+        match self {
+            &Keys::Words { kind, style } => {
                 let first = word(dice, style, time);
                 let second = dice.below(5);
                 (first, if kind == 4 { word(dice, second, time) } else { 0 })
             }
-            Keys::Parts { table, styles } => packed(dice, table, styles, time),
+            &Keys::Parts { table, styles } => packed(dice, table, styles, time),
+            Keys::Floats(floats) => (floats.next(dice, time), 0),
         }
     }
 
-    /// A key that its kind does not have, if there is one: the second word 1, or a bit above the parts' total.
+    /// A key that its kind does not have, if there is one: the second word not zero, or a bit above the parts' total.
     fn stray(&self, dice: &mut Dice, (first, second): (u64, u64)) -> (u64, u64) {
-        match *self {
-            Keys::Parts { table, .. } if total(table) < 128 => {
+        match self {
+            &Keys::Parts { table, .. } if total(table) < 128 => {
                 let above = 128 - total(table);
                 let any = dice.below(above as u64) as u32;
                 let bit = 1 << (127 - dice.of(&[above - 1, above - 1, any, 0]));
                 words(bit | dice.of(&[0, number(first, second)]))
             }
+            Keys::Floats(floats) => floats.stray(dice, first),
             _ => (first, 1),
         }
     }

@@ -3,8 +3,11 @@
 //! Both sides read records of 32 bytes and write answers of 40. The clock rises by one with each record, and a push is due
 //! at the clock plus a number below 1,000; `Form` says how that time is written as a key. First every byte of the
 //! answers of both is compared, the moves too; then passes over all batches are timed batch by batch, the crate's and the port's in
-//! turn, and their answers held against the first ones. Last the port alone on a small pool, one record at a time.
+//! turn, and their answers held against the first ones. Last the port alone on a small pool, one record at a time. Where the crate
+//! has no floats, the port is alone in kind 6.
 
+#[allow(dead_code)]
+mod floats;
 #[allow(dead_code)]
 mod judge;
 mod port;
@@ -58,6 +61,18 @@ const PAIR_BY_SECOND: Form = Form { name: "kind 4, equal first words", words: |d
 /// The low byte is the reversed priority, the rest road and day.
 const DESK: Form = Form { name: "kind 5, day, road and reversed priority", words: |due| (0, (!due ^ 255) & (u64::MAX >> 8)) };
 
+/// About half of the batches have positive numbers, the others negative ones, and one or two have both.
+const FLOAT: Form = Form { name: "kind 6, from positive to negative", words: |due| (falling(due), 0) };
+
+/// From above 1 down to it, and after the turn from below -1 down to -2, with the time's bits in the fraction.
+fn falling(due: u64) -> u64 {
+    let (one, turn) = (1f64.to_bits(), 1 << 21);
+    if due < turn {
+        return one | (due ^ (turn - 1)) << 24;
+    }
+    1 << 63 | one | due << 24
+}
+
 /// The batches of a shape, one after the other; the first has the entries that are held before.
 #[derive(Clone)]
 struct Batches {
@@ -89,31 +104,54 @@ impl Batches {
     }
 }
 
-/// A key of the crate that may tell how many moves there were. As a user of the crate has it, nothing is counted.
-trait Timed: Key {
+/// The kind of a key, as the port is told it.
+trait Kinded {
     const KIND: u32;
     const TABLE: Table = NO_TABLE;
+}
+
+/// A key of the crate that may tell how many moves there were. As a user of the crate has it, nothing is counted.
+trait Timed: Key + Kinded {
     fn moves<T>(work: impl FnOnce() -> T) -> (T, u32) {
         (work(), 0)
     }
 }
 
-impl Timed for Reverse<u64> {
+impl Kinded for Reverse<u64> {
     const KIND: u32 = 3;
 }
 
-impl Timed for (u64, u64) {
+impl Kinded for (u64, u64) {
     const KIND: u32 = 4;
 }
 
-impl Timed for (u32, u16, Reverse<u8>) {
+impl Kinded for (u32, u16, Reverse<u8>) {
     const KIND: u32 = 5;
     const TABLE: Table = <Self as Tuple>::TABLE;
 }
 
-impl<K: Timed> Timed for Counted<K> {
+/// Kind 6, which need not be a key of the crate.
+#[cfg(floats)]
+type Float = floats::Float;
+#[cfg(not(floats))]
+struct Float;
+
+impl Kinded for Float {
+    const KIND: u32 = 6;
+}
+
+impl<K: Kinded> Kinded for Counted<K> {
     const KIND: u32 = K::KIND;
     const TABLE: Table = K::TABLE;
+}
+
+impl Timed for Reverse<u64> {}
+impl Timed for (u64, u64) {}
+impl Timed for (u32, u16, Reverse<u8>) {}
+#[cfg(floats)]
+impl Timed for Float {}
+
+impl<K: Timed> Timed for Counted<K> {
     fn moves<T>(work: impl FnOnce() -> T) -> (T, u32) {
         measured(work)
     }
@@ -235,13 +273,13 @@ fn crate_pass<K: Timed>(batches: Batches, expected: &[u64]) -> Vec<Duration> {
     pass(batches, expected, |records, answers| by_crate(&mut heap, records, answers))
 }
 
-fn port_pass<K: Timed>(batches: Batches, expected: &[u64]) -> Vec<Duration> {
+fn port_pass<K: Kinded>(batches: Batches, expected: &[u64]) -> Vec<Duration> {
     let mut port = Port::new(K::KIND, K::TABLE, SLOTS);
     pass(batches, expected, |records, answers| port.batch(records, answers))
 }
 
 /// The examination by itself, on the pool as each batch finds it.
-fn examination_pass<K: Timed>(batches: Batches, expected: &[u64]) -> Vec<Duration> {
+fn examination_pass<K: Kinded>(batches: Batches, expected: &[u64]) -> Vec<Duration> {
     let (mut port, mut times) = (Port::new(K::KIND, K::TABLE, SLOTS), Vec::new());
     pass(batches, expected, |records, answers| {
         let start = Instant::now();
@@ -301,6 +339,46 @@ fn timed<K: Timed>(shape: Shape, form: Form) -> u64 {
     whole
 }
 
+/// Kind 6 beside the crate.
+#[cfg(floats)]
+fn timed_floats(shape: Shape) -> u64 {
+    timed::<Float>(shape, FLOAT)
+}
+
+/// Kind 6 where the crate has no floats: the port's answers are held against its first ones.
+#[cfg(not(floats))]
+fn timed_floats(shape: Shape) -> u64 {
+    let batches = Batches::new(shape, FLOAT);
+    let (expected, whole) = alone::<Float>(batches.clone());
+    println!("{}, {}: the port alone", FLOAT.name, shape.name);
+    let (mut p, mut e) = (Vec::new(), Vec::new());
+    for _ in 0..PASSES {
+        p.push(port_pass::<Float>(batches.clone(), &expected));
+        e.push(examination_pass::<Float>(batches.clone(), &expected));
+    }
+    for (what, passes) in [("port", p), ("examination", e)] {
+        Times::new(&passes, BATCHES * RECORDS).print(what);
+    }
+    whole
+}
+
+/// What the port tells each batch, and the whole without its keys.
+#[cfg(not(floats))]
+fn alone<K: Kinded>(mut batches: Batches) -> (Vec<u64>, u64) {
+    let mut port = Port::new(K::KIND, K::TABLE, SLOTS);
+    let (mut records, mut each, mut whole) = (Vec::new(), Vec::new(), 0);
+    let mut answers = vec![0; 40 * RECORDS];
+    for _ in 0..=BATCHES {
+        batches.next(&mut records);
+        let n = 40 * (records.len() / 32);
+        port.batch(&records, &mut answers[..n]);
+        port.words_are_right();
+        each.push(told(&answers[..n]));
+        whole = digest([whole, formless(&answers[..n])].into_iter());
+    }
+    (each, whole)
+}
+
 /// A push of each second record, due later than every one before, and a pop; before them pushes for what is held.
 fn one_after_the_other(form: Form) -> Vec<u8> {
     let (mut dice, mut out) = (Dice(1), Vec::new());
@@ -317,7 +395,7 @@ fn one_after_the_other(form: Form) -> Vec<u8> {
 
 /// Records served one at a time on a small pool: each is a batch of its own, so that the pool is examined for it, as it is
 /// for a single call. And the examination of that pool by itself.
-fn singles<K: Timed>(form: Form) {
+fn singles<K: Kinded>(form: Form) {
     let records = one_after_the_other(form);
     let (first, records) = records.split_at(32 * FEW_HELD);
     let (mut served, mut examined) = (Vec::new(), Vec::new());
@@ -352,12 +430,15 @@ fn main() {
     println!("ns per record: with the least time of each batch; the median pass (the best to the worst)");
     for shape in SHAPES {
         let whole = timed::<Reverse<u64>>(shape, TIME);
+        let same = |form: Form, other: u64| assert!(other == whole, "{}: values, moves or lengths differ from kind 3", form.name);
         for form in [PAIR_BY_FIRST, PAIR_BY_SECOND] {
-            assert!(timed::<(u64, u64)>(shape, form) == whole, "{}: values, moves or lengths differ from kind 3", form.name);
+            same(form, timed::<(u64, u64)>(shape, form));
         }
-        assert!(timed::<(u32, u16, Reverse<u8>)>(shape, DESK) == whole, "{}: values, moves or lengths differ from kind 3", DESK.name);
+        same(DESK, timed::<(u32, u16, Reverse<u8>)>(shape, DESK));
+        same(FLOAT, timed_floats(shape));
     }
     singles::<Reverse<u64>>(TIME);
     singles::<(u64, u64)>(PAIR_BY_FIRST);
     singles::<(u32, u16, Reverse<u8>)>(DESK);
+    singles::<Float>(FLOAT);
 }
