@@ -88,8 +88,8 @@ ran_all n bs w as' m = ran_from_lem n 0 bs w as' (omega arith) ∙ ap (going (wo
 
 pub after_whole : {w : World} → Whole w → (rs : List Record) → Whole (world_after w rs)
 unfolding world_after
-after_whole h [] = h
-after_whole h (r ∷ rs) = after_whole (served_whole h r) rs
+after_whole {w = w} h [] = h
+after_whole {w = w} h (r ∷ rs) = after_whole {w = (served w r).world} (served_whole h r) rs
 
 pub after_keeps : (w : World) (rs : List Record) → Kept w (world_after w rs)
 unfolding world_after
@@ -152,10 +152,10 @@ served_called {w} h r = λ i.
 -- .. so that the records of a batch are the public calls in their order, state and pool handed on
 pub records_called : {w : World} → Whole w → (rs : List Record) → (world_after w rs ≡ world_called w rs) × (answers_of w rs ≡ answers_called w rs)
 unfolding world_after world_called answers_of answers_called
-records_called h [] = (refl, refl)
-records_called {w} h (r ∷ rs) =
+records_called {w = w} h [] = (refl, refl)
+records_called {w = w} h (r ∷ rs) =
     let e = served_called h r in
-    let m = records_called (served_whole h r) rs in (
+    let m = records_called {w = (served w r).world} (served_whole h r) rs in (
       m.0 ∙ ap (λ (o : Outcome). world_called o.world rs) e,
       ap (λ (l : List ℕ). answer_of (served w r) ++ l) m.1 ∙ ap (λ (o : Outcome). answer_of o ++ answers_called o.world rs) e,
     )

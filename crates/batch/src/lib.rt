@@ -2,6 +2,8 @@
 //
 // `run` takes any state, pool, records and room, and has no `requires`. The pool is examined once; the
 // records then run on references, with no copy of the state for each.
+#![tactic(auto)]
+
 mod answers;
 mod bytes;
 mod records;

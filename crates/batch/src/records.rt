@@ -7,7 +7,7 @@ use crate::bytes::read_word;
 use keys::{Kind, Masks};
 
 // `rest` says whether bytes 1 to 7 are zero.
-#[derive(Drop)]
+#[derive(Clone, Copy)]
 pub struct Record {
     pub op: u8,
     pub rest: bool,

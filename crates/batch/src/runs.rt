@@ -11,7 +11,7 @@ use crate::serving::serve;
 use pool::{Head, State};
 
 // The code of the batch as a whole, the state afterwards, and how many records were answered.
-#[derive(Drop)]
+#[derive(Clone, Copy)]
 pub struct Batch {
     pub code: u8,
     pub state: State,

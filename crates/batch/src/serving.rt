@@ -13,7 +13,7 @@ use keys::{Kind, Masks};
 use pool::Head;
 
 // What a record gives, and the head of the state afterwards.
-#[derive(Drop)]
+#[derive(Clone, Copy)]
 pub struct Reply {
     pub code: u8,
     pub head: Head,

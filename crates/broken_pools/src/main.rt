@@ -1,5 +1,7 @@
 // The examination at work: sound pools, and pools that break one clause of document 01 each, for
 // every kind of key. A line for each, with its code: 0 sound, 1 not fit, 2 not sound.
+#![tactic(auto)]
+
 mod bits;
 mod clauses;
 mod floats;

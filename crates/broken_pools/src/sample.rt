@@ -5,7 +5,7 @@ use keys::{Kind, REVERSED, Table};
 use pool::{Head, State};
 
 // A state and a pool as one value, so that a clause can be broken by one store.
-#[derive(Drop)]
+#[derive(Clone, Copy)]
 pub struct Sample {
     pub head: Head,
     pub first: [u32; 131],

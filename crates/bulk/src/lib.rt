@@ -3,6 +3,8 @@
 // Both calls take any state and any slices, and have no `requires`. Every entry is tested before the
 // first is pushed, so a refusal leaves the pool as it was. What a call gives is one equation, by
 // `extended` of specs/Bulk.antt.
+#![tactic(auto)]
+
 mod ordered;
 mod steps;
 mod wide;
@@ -11,7 +13,7 @@ pub use ordered::extend;
 pub use wide::{Extended, extend_wide};
 
 // An entry: its key words and its value. In kinds of one word the second is 0.
-#[derive(Drop)]
+#[derive(Clone, Copy)]
 pub struct Entry {
     pub key0: u64,
     pub key1: u64,

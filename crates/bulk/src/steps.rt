@@ -7,7 +7,7 @@ use crate::wide::Extended;
 use pool::{Head, State};
 
 // What a test of entries carries: how many slots are left, and the first refusal.
-#[derive(Drop)]
+#[derive(Clone, Copy)]
 pub struct Gauge {
     pub head: Head,
     pub left: u32,

@@ -11,7 +11,7 @@ use crate::steps::Gauge;
 use pool::{Head, State};
 
 // What a bulk push gives: the place, from 0, is that of the entry that was refused, else 0.
-#[derive(Drop)]
+#[derive(Clone, Copy)]
 pub struct Extended {
     pub code: u8,
     pub state: State,

@@ -12,14 +12,14 @@ ghost use Rattle.engine.specs.Core.{to_drain};
 use keys::{Kind, Masks};
 use pool::Head;
 
-#[derive(Drop)]
+#[derive(Clone, Copy)]
 pub struct Shifted {
     pub head: Head,
     pub moves: u32,
 }
 
 // The words of the key that becomes the top, and how many entries were moved.
-#[derive(Drop)]
+#[derive(Clone, Copy)]
 struct Raised {
     top0: u64,
     top1: u64,

@@ -3,6 +3,8 @@
 // Only the crates above call these functions. They ask for bounds (`Ready`: lengths, every link at most
 // n) and never that a pool is sound; what they do to a sound pool is what document 01 says, which the
 // crate `heap` shows.
+#![tactic(auto)]
+
 mod constraining;
 mod listing;
 mod popping;

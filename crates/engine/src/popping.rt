@@ -12,7 +12,7 @@ use crate::constraining::{Shifted, constrain};
 use keys::Masks;
 use pool::Head;
 
-#[derive(Drop)]
+#[derive(Clone, Copy)]
 pub struct Taken {
     pub code: u8,
     pub head: Head,

@@ -11,7 +11,7 @@ ghost use Rattle.engine.specs.Core.{push_code, push_core};
 use keys::{Kind, Masks};
 use pool::Head;
 
-#[derive(Drop)]
+#[derive(Clone, Copy)]
 pub struct Entered {
     pub code: u8,
     pub head: Head,

@@ -1,5 +1,7 @@
 // Document 01's examples 1 to 12, and what document 02 asks of float keys, run by the public calls. A
 // line for each.
+#![tactic(auto)]
+
 mod floats;
 mod one_kind;
 mod other_kinds;

@@ -1,5 +1,7 @@
 // Bulk pushes at work, of numbers and of floats: one that is taken, and one for each code by which an
 // entry is refused.
+#![tactic(auto)]
+
 mod door;
 mod sample;
 
@@ -15,7 +17,7 @@ const TWO: u64 = 4611686018427387904;
 
 const NAN: u64 = 9221120237041090560;
 
-#[derive(Drop)]
+#[derive(Clone, Copy)]
 struct Ran {
     code: u8,
     place: usize,

@@ -2,7 +2,7 @@
 use keys::Kind;
 use pool::{Head, State};
 
-#[derive(Drop)]
+#[derive(Clone, Copy)]
 pub struct Sample {
     pub state: State,
     pub keys: [u64; 4],

@@ -6,6 +6,8 @@
 //
 // `any_pool` is the same for any kind and any number of slots, for the programs that are compared with
 // the crate.
+#![tactic(auto)]
+
 mod any_pool;
 
 pub use any_pool::{serve_slots, small};

@@ -6,14 +6,14 @@ ghost use Rattle.heap.specs.Answers.{given_if, top_if};
 use pool::State;
 
 // What a pop gives out: the crate's `Option<(K, V)>`.
-#[derive(Drop)]
+#[derive(Clone, Copy)]
 pub enum Given {
     Nothing,
     Entry { key0: u64, key1: u64, value: u64 },
 }
 
 // The top that was asked for: the crate's `Option<K>`.
-#[derive(Drop)]
+#[derive(Clone, Copy)]
 pub enum Top {
     Absent,
     Key { key0: u64, key1: u64 },
@@ -39,20 +39,20 @@ pub fn top_if(there: bool, key0: u64, key1: u64) -> Top
     Top::Absent
 }
 
-#[derive(Drop)]
+#[derive(Clone, Copy)]
 pub struct Answer {
     pub code: u8,
     pub state: State,
 }
 
-#[derive(Drop)]
+#[derive(Clone, Copy)]
 pub struct Moves {
     pub code: u8,
     pub state: State,
     pub moves: u32,
 }
 
-#[derive(Drop)]
+#[derive(Clone, Copy)]
 pub struct Popped {
     pub code: u8,
     pub state: State,
@@ -60,19 +60,19 @@ pub struct Popped {
     pub given: Given,
 }
 
-#[derive(Drop)]
+#[derive(Clone, Copy)]
 pub struct TopRead {
     pub code: u8,
     pub top: Top,
 }
 
-#[derive(Drop)]
+#[derive(Clone, Copy)]
 pub struct Length {
     pub code: u8,
     pub length: u32,
 }
 
-#[derive(Drop)]
+#[derive(Clone, Copy)]
 pub struct Listed {
     pub code: u8,
     pub count: u32,

@@ -7,6 +7,8 @@
 //
 // The pool is four slices for n slots, n at most 4,096: n key words (2n in kinds 4 and 5), n values, n next
 // links and n back links. The state goes in by value and comes back by value.
+#![tactic(auto)]
+
 mod answers;
 mod changing;
 mod fresh;

@@ -1,4 +1,6 @@
 // Keys made from their words and back, compared and measured: a line for each test, with its outcome.
+#![tactic(auto)]
+
 mod floats;
 mod mixed;
 mod rounds;

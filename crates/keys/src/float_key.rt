@@ -5,7 +5,7 @@ ghost use Rattle.keys.specs.Floats.{float_form, is_nan};
 
 use crate::word::apart;
 
-#[derive(Drop)]
+#[derive(Clone, Copy)]
 pub struct Float(pub u64);
 
 impl Float {

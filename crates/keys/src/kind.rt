@@ -12,7 +12,7 @@ pub const REVERSED: u8 = 2;
 // The codes of a mixed key's parts, high part first. A part's code is its bits, 8, 16, 32 or 64, plus
 // its sort; 0 stands where there is no part. So a day of 32 bits, a road of 16 and a reversed priority
 // of 8 are `Table::of(32, 16, 8 + REVERSED, 0)`.
-#[derive(Drop)]
+#[derive(Clone, Copy)]
 pub struct Table {
     pub first: u8,
     pub second: u8,
@@ -34,7 +34,7 @@ impl Table {
 }
 
 // In every kind but 5 the table is zero.
-#[derive(Drop)]
+#[derive(Clone, Copy)]
 pub struct Kind {
     pub number: u32,
     pub table: Table,

@@ -6,6 +6,8 @@
 // `requires`. No heap has a kind that is not 1 to 6, or a table that breaks its limits: they are
 // refused with code 1 before a key is compared. Here such a kind is read as 1, and such a table as
 // two words.
+#![tactic(auto)]
+
 mod float_key;
 mod kind;
 mod mask;

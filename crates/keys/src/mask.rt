@@ -11,7 +11,7 @@ use crate::pair_key::Pair;
 use crate::table::{bits, table_fits};
 
 // Of a mixed key's two words: the bits that are its own, and those that its ordered form flips.
-#[derive(Drop)]
+#[derive(Clone, Copy)]
 pub struct Masks {
     pub full0: u64,
     pub full1: u64,

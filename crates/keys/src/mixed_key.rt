@@ -8,7 +8,7 @@ ghost use Rattle.keys.specs.Masks.{masked};
 use crate::mask::Masks;
 use crate::pair_key::Pair;
 
-#[derive(Drop)]
+#[derive(Clone, Copy)]
 pub struct Mixed(pub u64, pub u64);
 
 impl Mixed {

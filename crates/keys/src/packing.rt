@@ -12,7 +12,7 @@ use crate::table::{bits, table_fits};
 
 // The parts of a mixed key as the entries of its table stand, high part first: each a bit pattern of
 // its part's bits, and 0 where the table has no part.
-#[derive(Drop)]
+#[derive(Clone, Copy)]
 pub struct Parts {
     pub first: u64,
     pub second: u64,
@@ -21,7 +21,7 @@ pub struct Parts {
 }
 
 // A key, if the parts that were to be packed fit; else it is the key of two zero words.
-#[derive(Drop)]
+#[derive(Clone, Copy)]
 pub struct Packing {
     pub fits: bool,
     pub key: Mixed,

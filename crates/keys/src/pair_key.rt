@@ -5,7 +5,7 @@ ghost use Rattle.keys.specs.Ordered.{pair_form};
 
 use crate::word::apart;
 
-#[derive(Drop)]
+#[derive(Clone, Copy)]
 pub struct Pair(pub u64, pub u64);
 
 impl Pair {

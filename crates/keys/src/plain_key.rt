@@ -5,7 +5,7 @@ ghost use Rattle.keys.specs.Parts.{unsigned, formed};
 
 use crate::word::apart;
 
-#[derive(Drop)]
+#[derive(Clone, Copy)]
 pub struct Plain(pub u64);
 
 impl Plain {

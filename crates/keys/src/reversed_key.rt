@@ -5,7 +5,7 @@ ghost use Rattle.keys.specs.Parts.{reversed, formed};
 
 use crate::word::apart;
 
-#[derive(Drop)]
+#[derive(Clone, Copy)]
 pub struct Reversed(pub u64);
 
 impl Reversed {

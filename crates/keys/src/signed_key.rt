@@ -6,7 +6,7 @@ ghost use Rattle.keys.specs.Ordered.{ordered_number};
 
 use crate::word::apart;
 
-#[derive(Drop)]
+#[derive(Clone, Copy)]
 pub struct Signed(pub i64);
 
 impl Signed {

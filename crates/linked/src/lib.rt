@@ -4,6 +4,8 @@
 // whether there is a top, its two words, the first and last links of the 131 chains, and the three busy
 // words. A slice is a pointer and a number of elements. No function has a `requires`; that the pointers
 // are good is the caller's to see to.
+#![tactic(auto)]
+
 ghost use Rattle.std.specs.Prelude.{◌≡◌, false};
 ghost use Rattle.pool.specs.World.{links, world};
 ghost use Rattle.pool.specs.Examine.{examined};

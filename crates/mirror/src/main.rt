@@ -3,6 +3,8 @@
 // Input is the kind, the four codes of its table and the number of slots, four bytes each, the lowest
 // first, and then at most 65,536 bytes of records. Output is as the depot's: the answers, or one byte
 // with a code.
+#![tactic(auto)]
+
 use keys::{Kind, Table};
 
 fn serve_first(input: &[u8], got: usize) {

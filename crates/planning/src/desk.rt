@@ -6,7 +6,7 @@ use keys::{Kind, Mixed, Packing, Table};
 use pool::State;
 
 // A mixed key takes two words in the pool, so that eight slots have sixteen.
-#[derive(Drop)]
+#[derive(Clone, Copy)]
 pub struct Desk {
     pub state: State,
     pub keys: [u64; 16],

@@ -5,6 +5,8 @@
 // backwards from the last day: the latest day comes first, on one day the greatest road, and on one road
 // the smallest priority number, since that part is reversed. Of equal jobs the last pushed comes first.
 // What is taken stays as it was planned: a job that would have come before it is refused.
+#![tactic(auto)]
+
 mod desk;
 mod job;
 

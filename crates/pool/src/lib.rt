@@ -4,6 +4,8 @@
 // are the core's; only the crates above call them, after an examination. They ask for bounds (lengths,
 // every link at most n) and for busy words that sum up the first links, and never that a pool is sound:
 // along the links each loop ends by a budget.
+#![tactic(auto)]
+
 mod against;
 mod along;
 mod chain;

@@ -36,7 +36,7 @@ pub const FULL: u8 = 7;
 pub const EMPTY: u8 = 8;
 
 // What a state holds besides its links: the kind of key, how many entries, and the top, if there is one.
-#[derive(Drop)]
+#[derive(Clone, Copy)]
 pub struct Head {
     pub kind: Kind,
     pub len: u32,
@@ -64,7 +64,7 @@ impl Head {
 
 // A link is 0 for none, else a slot's number plus one. `first` and `last` have one of each chain.
 // Bit b of the three words of `busy` is set exactly when bucket b is not empty.
-#[derive(Drop)]
+#[derive(Clone, Copy)]
 pub struct State {
     pub head: Head,
     pub first: [u32; 131],

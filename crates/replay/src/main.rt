@@ -5,6 +5,8 @@
 // bytes each, the lowest first, and then the records. Output is its answers, or one byte with its code.
 // More than 2,048 records are code 4 and a stream that the input cuts off is code 3; after either nothing
 // more is read, since where the next stream starts is not known.
+#![tactic(auto)]
+
 use keys::{Kind, Table};
 
 // Fills what is lent with a stream's records and serves them. Answers whether they came whole.

@@ -74,7 +74,7 @@ module _ (B : ℕ) (small : B < bucket_count) {E : Type 0} (key : E → ℕ) (n 
   fits_after old es f [] w = f
   fits_after old es f (c ∷ cs) (cons w ws) =
       subst (λ (t : PlainServed E). let h = plain_after key n t.heap cs in Fits B key h.top h.held) (line_tells B key n old es c)
-      (fits_after _ _ (fits_line B small key keep (λ t e. refl) n old es f c w) cs ws)
+      (let l = line B key keep n old es c in fits_after l.heap.top l.heap.held (fits_line B small key keep (λ t e. refl) n old es f c w) cs ws)
 
   pub last_greatest : (old : Option ℕ) (es : List E) → LastGreatest key es (plain_serve key n (record { top = old; held = es }) Pop).answer.given
   unfolding plain_serve plain_served
