@@ -5,5 +5,4 @@
 pub mod Each
 pub mod CodeWide
 pub mod CodeSteps
-pub mod Lent
 pub mod Promises
