@@ -14,10 +14,10 @@ use Rattle.rule.specs.Width.{distance}
 use Rattle.keys.specs.declared.kind.Kind.{Kind}
 use Rattle.pool.specs.Chain.{hit, Linked, Backed, last_from, On}
 use Rattle.keys.specs.Ordered.{words, width}
-use Rattle.pool.specs.World.{free_chain, chain_count, Links, links, World, slot_key, size, first_of, chains}
+use Rattle.pool.specs.World.{free_chain, chain_count, Links, World, slot_key, size, first_of, chains}
 use Rattle.pool.specs.Sound.{Fit, Whole, limit}
 use Rattle.pool.specs.Fine.{Under, FineAt, Fine, Room, Holds, Ready}
-use Rattle.pool.specs.Core.{appended_by, appended, unhooked_by, unhooked, cut, freed, emptied, better, greatest_from, drained, drain_from}
+use Rattle.pool.specs.Core.{appended_by, appended, unhooked_by, unhooked, cut, emptied, better, greatest_from, drained, drain_from}
 use Rattle.pool.proofs.Chains.{hit_same, hit_cases, tally_ge, tally_find, last_on0}
 use Rattle.pool.proofs.Marks.{mark_summary, unmark_summary, summary_past}
 use Rattle.pool.proofs.Laid.{Good, laid_inside}
