@@ -12,8 +12,7 @@ use Rattle.keys.specs.Ordered.{pair_form, width, well_formed}
 use Rattle.keys.specs.Packing.{packed_of, parts_of}
 use Rattle.keys.proofs.Ordered.{well_formed_mixed, width_mixed, mixed_fit, one_pair}
 use Rattle.keys.proofs.Packed.{pack_unpack}
-use Rattle.key_rounds.proofs.rounds.mixed_round.Statement.{statement}
-use Rattle.key_rounds.proofs.rounds.mixed_round.Tie as tie
+use Rattle.key_rounds.proofs.rounds.mixed_round.Goals as goal
 
 module _ (t : Table) (a b : ℕ) (fit : table_fits t ≡ true) (well : well_formed (mixed t) a b ≡ true) where
   no-bit-above : pair_form a b < 2 ^ total (table_parts t)
@@ -24,16 +23,7 @@ module _ (t : Table) (a b : ℕ) (fit : table_fits t ≡ true) (well : well_form
   comes_back : {x : Parts} {c d : ℕ} → b < 2 ^ 64 → d < 2 ^ 64 → x ≡ parts_of t (pair_form a b) → pair_form c d ≡ packed_of t x → (c ≡ a) × (d ≡ b)
   comes_back {c = c} hb hd e p = one_pair c hd a hb (p ∙ ap (packed_of t) e ∙ pack_unpack t (pair_form a b) fit no-bit-above)
 
-unpack-requires : tie.Need-unpack-requires
-unpack-requires c κs = search rules
-
-pack-requires : tie.Need-pack-requires
-pack-requires c κs = search rules
-
-returns : tie.Need-returns
+pub returns : goal.returns
 returns c =
-    let x = c.before.before.before.args in
-    λ fit well. comes_back x.table x.key.0 x.key.1 fit well (search rules) (search rules) c.before.before.unpack.ensures c.before.pack.ensures.1
-
-pub mixed-round-spec : {M : Type 1} → statement M
-mixed-round-spec = tie.close (tie.spec unpack-requires pack-requires returns)
+    let x = c.args in
+    λ fit well. comes_back x.table x.key.0 x.key.1 fit well (search rules) (search rules) c.unpack.ensures c.pack-packing.ensures.1
