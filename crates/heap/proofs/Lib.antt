@@ -1,10 +1,10 @@
 -- The laws of the calls. What they end in:
---   push-core, pop-core, constrain-core, clear-core, clearTo-core, list-core (Calls, Listed)
+--   push_core_lem, pop_core_lem, constrain_core_lem, clear_core_lem, clear_to_core_lem, list_core_lem (Calls, ListLaws)
 --                                     on a sound world the core does what document 01 says
---   push-follows, pop-follows, constrain-follows, clear-follows, clearTo-follows (Calls), made-follows, madeAt-follows (Public)
+--   push_follows, pop_follows, constrain_follows, clear_follows, clear_to_follows (Calls), made_follows, made_at_follows (Public)
 --                                     sound world in, sound world out, the rule's call at slots
---   refused-changes-nothing (Public)   any call, any world: a refused call gives back what it got
---   determined-.. (Determined)         no second outcome
+--   refused_changes_nothing (Public)   any call, any world: a refused call gives back what it got
+--   determined_.. (Determined)         no second outcome
 -- Code..: what the proofs of the code lean on.
 pub mod Calls
 pub mod Public

@@ -27,7 +27,7 @@ use Rattle.pool.proofs.FreshPool.{run}
 use Rattle.pool.proofs.Follows.{examined_whole, Follows, fresh_core_lem, fresh_follows}
 use Rattle.heap.proofs.Calls.{clear_core_lem, clear_to_core_lem}
 
--- ---- refused-changes-nothing
+-- ---- refused_changes_nothing
 
 -- if the call is refused, it gives back the state and the pool that it got, and its code alone
 unfoldable pub Fair : World → Outcome → Type 0

@@ -1,5 +1,5 @@
 -- The kinds of keys: the table's equations, that ordered forms fit their width and tell well-formed keys apart, and what the
--- order and the distance of two keys are in their words. All follows from the laws of Parts, and for floats from those of Floats.
+-- order and the distance of two keys are in their words. All follows from the laws of PartLaws, and for floats from those of Floats.
 use mathlib.Core.Path.{◌≡◌, refl, sym, ap, ap₂, subst, ◌∙◌}
 use mathlib.Core.Bool.{Bool, true, false, cond, not, ◌&&◌, ◌||◌, true≢false, or-false}
 use mathlib.Core.List.{List, [], ◌∷◌}

@@ -1,5 +1,5 @@
 -- Keys of several parts compare part by part: over every list of parts, the order and the distance of packed keys are the
--- crate's rule for tuples. By induction on the parts, a step by order-lead, order-rest, distance-lead and distance-rest.
+-- crate's rule for tuples. By induction on the parts, a step by order_lead, order_rest, distance_lead and distance_rest.
 use mathlib.Core.Path.{◌≡◌, refl, sym, ap, ap₂, subst, ◌∙◌}
 use mathlib.Core.Bool.{Bool, true, false, cond}
 use mathlib.Core.List.{List, [], ◌∷◌}
