@@ -11,6 +11,10 @@ use borrow.Author.Tests.{eqb-true}
 use lib.Dec.{eqb}
 use lib.ListN.{length, take, drop, length-append, length-drop, take-append-drop}
 use lib.Seq.{length-take-le, drop-drop, take_at, drop_at}
+use Rattle.std.specs.Prelude.{Result, Ok, Err}
+use Rattle.pool.specs.declared.refusal.Refusal.{Refusal}
+use Rattle.pool.specs.declared.state.Answer.{Answer}
+use Rattle.pool.proofs.Refusals.{result_of, result_err}
 use Rattle.pool.specs.World.{World}
 use Rattle.pool.specs.Sound.{Typed, Whole}
 use Rattle.pool.specs.Examine.{examined}
@@ -20,10 +24,9 @@ use Rattle.heap.specs.Calls.{push, pop, constrain, clear, clear_to, top, len, pu
 use Rattle.heap.proofs.Public.{passes}
 use Rattle.heap.proofs.Determined.{Pool, over as worldWith, state_in, pool_in}
 use Rattle.batch.specs.declared.records.Record.{Record}
-use Rattle.batch.specs.declared.runs.Batch.{Batch}
 use Rattle.batch.specs.Bytes.{written_at}
 use Rattle.batch.specs.Records.{record_at, records_from, formed}
-use Rattle.batch.specs.Batch.{operated, served, answer_of, world_after, answers_of, called, world_called, answers_called, Batched, batched, records, batch_code, ran, batch_unless, batch}
+use Rattle.batch.specs.Batch.{operated, served, answer_of, world_after, answers_of, called, world_called, answers_called, Batched, batched, records, batch_code, ran, batch_unless, batch, batch_answered}
 use Rattle.batch.specs.Core.{going, ran_from}
 use Rattle.batch.proofs.Numbers.{length_answer}
 use Rattle.batch.proofs.Served.{Kept, served_whole, served_keeps}
@@ -141,11 +144,11 @@ pub served_called : {w : World} → Whole w → (r : Record) → served w r ≡ 
 unfolding served operated called pushed popped constrained cleared cleared_to top_read len_read
 served_called {w} h r = λ i.
     cond (formed w.head.kind r)
-    (cond (eqb r.op 1) (sym (passes h (push w r.key0 r.key1 r.value)) i)
+    (cond (eqb r.op 1) (sym (passes h (push w r.key.first r.key.second r.value)) i)
     (cond (eqb r.op 2) (sym (passes h (pop w)) i)
     (cond (eqb r.op 3) (sym (passes h (constrain w)) i)
     (cond (eqb r.op 4) (sym (passes h (clear w)) i)
-    (cond (eqb r.op 5) (sym (passes h (clear_to w r.key0 r.key1)) i)
+    (cond (eqb r.op 5) (sym (passes h (clear_to w r.key.first r.key.second)) i)
     (cond (eqb r.op 6) (sym (passes h (top w)) i) (sym (passes h (len w)) i)))))))
     (refused w 5)
 
@@ -178,12 +181,27 @@ module _ (w : World) (typed : Typed w.links) (bs as' : List ℕ) (accepted : bat
 
 -- ---- no second outcome
 
+-- what the caller was told is known by the number of it and of the records
+heard : (t : Result ℕ Refusal) (w : World) (as' : List ℕ) → result_of (batch_answered t w as').code (batch_answered t w as').count ≡ t
+unfolding batch_answered result_of
+heard (Ok n) w as' = refl
+heard (Err r) w as' = result_err r 0
+
+left : (t : Result ℕ Refusal) (w : World) (as' : List ℕ) → ((batch_answered t w as').world ≡ w) × ((batch_answered t w as').answers ≡ as')
+unfolding batch_answered
+left (Ok n) w as' = (refl, refl)
+left (Err r) w as' = (refl, refl)
+
 -- two answers, with the pools and the answer bytes that they leave, that satisfy the contract are the same
-pub determined_batch : (w : World) (bs as' : List ℕ) (p p' : Pool) (as₁ as₂ : List ℕ) (r r' : Batch) → batched r.code (worldWith r.state p) as₁ r.count ≡ batch w bs as'
-    → batched r'.code (worldWith r'.state p') as₂ r'.count ≡ batch w bs as' → (r ≡ r') × (p ≡ p') × (as₁ ≡ as₂)
+pub determined_batch : (w : World) (bs as' : List ℕ) (p p' : Pool) (as₁ as₂ : List ℕ) (r r' : Answer ℕ Refusal) → batch_answered r.told (worldWith r.state p) as₁ ≡ batch w bs as'
+    → batch_answered r'.told (worldWith r'.state p') as₂ ≡ batch w bs as' → (r ≡ r') × (p ≡ p') × (as₁ ≡ as₂)
 determined_batch w bs as' p p' as₁ as₂ r r' e f =
-    let g : batched r.code (worldWith r.state p) as₁ r.count ≡ batched r'.code (worldWith r'.state p') as₂ r'.count = e ∙ sym f in (
-      ap {B = Batch} (λ (b : Batched). record { code = b.code; state = state_in b.world; count = b.count }) g,
-      ap (λ (b : Batched). pool_in b.world) g,
-      ap (λ (b : Batched). b.answers) g,
+    let u = worldWith r.state p in
+    let u' = worldWith r'.state p' in
+    let g : batch_answered r.told u as₁ ≡ batch_answered r'.told u' as₂ = e ∙ sym f in
+    let t : r.told ≡ r'.told = sym (heard r.told u as₁) ∙ ap (λ (b : Batched). result_of b.code b.count) g ∙ heard r'.told u' as₂ in
+    let v : u ≡ u' = sym (left r.told u as₁).0 ∙ ap (λ (b : Batched). b.world) g ∙ (left r'.told u' as₂).0 in (
+      (λ i. record { told = t i; state = state_in (v i) }),
+      ap pool_in v,
+      sym (left r.told u as₁).1 ∙ ap (λ (b : Batched). b.answers) g ∙ (left r'.told u' as₂).1,
     )

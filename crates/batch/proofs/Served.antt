@@ -6,8 +6,11 @@ use mathlib.Core.Option.{Option, none, some}
 use Prim.Native.Nat.{ℕ, zero, suc}
 use lib.Dec.{eqb}
 use lib.ListN.{length}
+use Rattle.std.specs.Prelude.{Ok, Err}
 use Rattle.rule.specs.Rule.{Step, keep, constrain as ruleConstrain, pop as rulePop}
 use Rattle.keys.specs.Ordered.{width, ordered}
+use Rattle.pool.specs.declared.refusal.Refusal.TheVariants.{Malformed}
+use Rattle.pool.specs.Codes.{refusal_code}
 use Rattle.pool.specs.World.{free_chain, World, size, chain, key_at, top_key, within}
 use Rattle.pool.specs.Sound.{Whole}
 use Rattle.pool.specs.Lay.{heap, next_in, lay, fresh, head_after}
@@ -18,7 +21,8 @@ use Rattle.heap.proofs.Calls.{push_by, push_core_lem, push_whole, pop_core_lem, 
 use Rattle.batch.specs.declared.records.Record.{Record}
 use Rattle.batch.specs.Records.{formed}
 use Rattle.batch.specs.Batch.{operated, served}
-use Rattle.batch.specs.Core.{constrained_core, operated_core, served_core}
+use Rattle.batch.specs.Core.{named, operation_of, constrained_core, operated_core, asked_core, served_core}
+use Rattle.batch.specs.declared.records.Operation.{Operation}
 
 -- what holds of both sides holds of the one that is chosen
 either : (P : Outcome → Type 0) (x : Bool) {o p : Outcome} → P o → P p → P (cond x o p)
@@ -26,7 +30,7 @@ either P true a b = a
 either P false a b = b
 
 -- what holds of every call, and of a refusal, holds of what a record gives
-each : (P : Outcome → Type 0) (w : World) (r : Record) → P (push w r.key0 r.key1 r.value) → P (pop w) → P (constrain w) → P (clear w) → P (clear_to w r.key0 r.key1) → P (top w) → P (len w)
+each : (P : Outcome → Type 0) (w : World) (r : Record) → P (push w r.key.first r.key.second r.value) → P (pop w) → P (constrain w) → P (clear w) → P (clear_to w r.key.first r.key.second) → P (top w) → P (len w)
     → P (refused w 5) → P (served w r)
 unfolding served operated
 each P w r p₁ p₂ p₃ p₄ p₅ p₆ p₇ p₀ =
@@ -37,23 +41,32 @@ each P w r p₁ p₂ p₃ p₄ p₅ p₆ p₇ p₀ =
 -- ---- the core
 
 module _ {w : World} (h : Whole w) (r : Record) where
-  operated_core_lem : operated_core w r ≡ operated w r
-  unfolding operated_core operated constrained_core
-  operated_core_lem = λ i.
-      cond (eqb r.op 1) (push_core_lem h r.key0 r.key1 r.value i)
-      (cond (eqb r.op 2) (pop_core_lem h i)
-      (cond (eqb r.op 3) (constrain_core_lem h i)
-      (cond (eqb r.op 4) (clear_core_lem h i)
-      (cond (eqb r.op 5) (clear_to_core_lem h r.key0 r.key1 i)
-      (cond (eqb r.op 6) (top w) (len w))))))
+  -- what is chosen acts as what each side does
+  step : (x : Bool) (a b : Operation) {o p : Outcome} → operated_core w a ≡ o → operated_core w b ≡ p → operated_core w (cond x a b) ≡ cond x o p
+  step true a b e f = e
+  step false a b e f = f
+
+  operated_core_lem : operated_core w (named r) ≡ operated w r
+  unfolding operated_core operated constrained_core named
+  operated_core_lem =
+      step (eqb r.op 1) _ _ (push_core_lem h r.key.first r.key.second r.value)
+      (step (eqb r.op 2) _ _ (pop_core_lem h)
+      (step (eqb r.op 3) _ _ (constrain_core_lem h)
+      (step (eqb r.op 4) _ _ (clear_core_lem h)
+      (step (eqb r.op 5) _ _ (clear_to_core_lem h r.key.first r.key.second)
+      (step (eqb r.op 6) _ _ refl refl)))))
 
   pub served_core_lem : served_core w r ≡ served w r
-  unfolding served_core served
-  served_core_lem = λ i. cond (formed w.head.kind r) (operated_core_lem i) (refused w 5)
+  unfolding served_core served asked_core operation_of refusal_code
+  served_core_lem = go (formed w.head.kind r)
+    where
+      go : (x : Bool) → asked_core w (cond x (Ok (named r)) (Err Malformed)) ≡ cond x (operated w r) (refused w 5)
+      go true = operated_core_lem
+      go false = refl
 
   pub served_whole : Whole (served w r).world
   unfolding refused
-  served_whole = each (λ (o : Outcome). Whole o.world) w r (push_whole h r.key0 r.key1 r.value) (pop_whole h) (constrain_whole h) (clear_whole h) (clear_to_whole h r.key0 r.key1) (top_whole h) (len_whole h) h
+  served_whole = each (λ (o : Outcome). Whole o.world) w r (push_whole h r.key.first r.key.second r.value) (pop_whole h) (constrain_whole h) (clear_whole h) (clear_to_whole h r.key.first r.key.second) (top_whole h) (len_whole h) h
 
 -- ---- what stays
 
@@ -121,5 +134,5 @@ to_keeps w a b = go (key_code w.head.kind a b)
 -- any record, any world
 pub served_keeps : (w : World) (r : Record) → Kept w (served w r).world
 unfolding clear top len
-served_keeps w r = each (Keeps w) w r (push_keeps w r.key0 r.key1 r.value) (pop_keeps w) (constrain_keeps w) (fresh_keeps w false 0 0) (to_keeps w r.key0 r.key1)
+served_keeps w r = each (Keeps w) w r (push_keeps w r.key.first r.key.second r.value) (pop_keeps w) (constrain_keeps w) (fresh_keeps w false 0 0) (to_keeps w r.key.first r.key.second)
     (record { kind = refl; slots = refl }) (record { kind = refl; slots = refl }) (refused_keeps w 5)

@@ -1,5 +1,7 @@
 -- What a record gives, its answer of 40 bytes, and what a batch gives: document 01, "Batch records" and "Numbers given back".
-use Rattle.std.specs.Prelude.{Bool, cond, List, [], ◌∷◌, ◌++◌, ℕ, zero, suc, ◌*◌, ◌/◌, ◌%◌, eqb, ltb, length}
+use Rattle.std.specs.Prelude.{Bool, cond, List, [], ◌∷◌, ◌++◌, ℕ, zero, suc, ◌*◌, ◌/◌, ◌%◌, eqb, ltb, length, Result, Ok, Err}
+use Rattle.pool.specs.declared.refusal.Refusal.{Refusal}
+use Rattle.pool.specs.Codes.{refusal_code}
 use Rattle.pool.specs.World.{World}
 use Rattle.pool.specs.Examine.{examined}
 use Rattle.engine.specs.Outcome.{Outcome, refused}
@@ -11,11 +13,11 @@ use Rattle.batch.specs.Records.{records_from, formed}
 -- "1 push, 2 pop, 3 constrain, 4 clear, 5 clear_to, 6 top, 7 length": the call, on a sound world
 unfoldable pub operated : World → Record → Outcome
 operated w r =
-    cond (eqb r.op 1) (push w r.key0 r.key1 r.value)
+    cond (eqb r.op 1) (push w r.key.first r.key.second r.value)
     (cond (eqb r.op 2) (pop w)
     (cond (eqb r.op 3) (constrain w)
     (cond (eqb r.op 4) (clear w)
-    (cond (eqb r.op 5) (clear_to w r.key0 r.key1)
+    (cond (eqb r.op 5) (clear_to w r.key.first r.key.second)
     (cond (eqb r.op 6) (top w) (len w))))))
 
 -- "A refused record changes neither state nor pool"
@@ -46,11 +48,11 @@ answers_of w (r ∷ rs) = answer_of (served w r) ++ answers_of (served w r).worl
 unfoldable pub called : World → Record → Outcome
 called w r =
     cond (formed w.head.kind r)
-    (cond (eqb r.op 1) (pushed w r.key0 r.key1 r.value)
+    (cond (eqb r.op 1) (pushed w r.key.first r.key.second r.value)
     (cond (eqb r.op 2) (popped w)
     (cond (eqb r.op 3) (constrained w)
     (cond (eqb r.op 4) (cleared w)
-    (cond (eqb r.op 5) (cleared_to w r.key0 r.key1)
+    (cond (eqb r.op 5) (cleared_to w r.key.first r.key.second)
     (cond (eqb r.op 6) (top_read w) (len_read w)))))))
     (refused w 5)
 
@@ -74,6 +76,12 @@ pub record Batched : Type 0 where
 
 abbrev pub batched : ℕ → World → List ℕ → ℕ → Batched
 batched code w as' n = record { code = code; world = w; answers = as'; count = n }
+
+-- the same by what the caller is told: how many records were answered, or why none was
+unfoldable pub batch_answered : Result ℕ Refusal → World → List ℕ → Batched
+unfolding refusal_code
+batch_answered (Ok n) w as' = batched 0 w as' n
+batch_answered (Err r) w as' = batched (refusal_code r) w as' 0
 
 -- how many whole records there are
 abbrev pub records : List ℕ → ℕ

@@ -11,8 +11,7 @@ unfoldable pub record_at : List ℕ → ℕ → Record
 record_at bs at = record {
   op = get_or bs at 0;
   rest = eqb (number 7 bs (at + 1)) 0;
-  key0 = number 8 bs (at + 8);
-  key1 = number 8 bs (at + 16);
+  key = record { first = number 8 bs (at + 8); second = number 8 bs (at + 16) };
   value = number 8 bs (at + 24);
 }
 
@@ -23,13 +22,13 @@ records_from (suc k) bs at = record_at bs at ∷ records_from k bs (at + 32)
 
 -- no key and no value
 abbrev pub bare : Record → Bool
-bare r = eqb r.key0 0 && eqb r.key1 0 && eqb r.value 0
+bare r = eqb r.key.first 0 && eqb r.key.second 0 && eqb r.value 0
 
 -- "unknown operation or a field not zero that must be" is code 5: the fields that each operation uses
 unfoldable pub fields_fit : Kind → Record → Bool
 fields_fit kind r =
-    cond (eqb r.op 1) (well_formed kind r.key0 r.key1)
-    (cond (eqb r.op 5) (well_formed kind r.key0 r.key1 && eqb r.value 0)
+    cond (eqb r.op 1) (well_formed kind r.key.first r.key.second)
+    (cond (eqb r.op 5) (well_formed kind r.key.first r.key.second && eqb r.value 0)
     ((eqb r.op 2 || eqb r.op 3 || eqb r.op 4 || eqb r.op 6 || eqb r.op 7) && bare r))
 
 unfoldable pub formed : Kind → Record → Bool

@@ -10,4 +10,4 @@ mod records;
 mod runs;
 mod serving;
 
-pub use runs::{Batch, run};
+pub use runs::run;

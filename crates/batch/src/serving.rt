@@ -1,278 +1,135 @@
-// One record served, on references. The masks are those of the kind.
-ghost use Rattle.std.specs.Prelude.{◌≡◌, false, List, ℕ, ◌<◌, ◌^◌, length};
-ghost use Rattle.keys.specs.Masks.{Reads};
-ghost use Rattle.pool.specs.World.{links, world};
-ghost use Rattle.pool.specs.Fine.{Fine, Room, Ready};
-ghost use Rattle.pool.specs.Core.{fresh_core};
-ghost use Rattle.engine.specs.Outcome.{answered};
-ghost use Rattle.engine.specs.Core.{push_core, pop_core, clear_core, clear_to_core};
-ghost use Rattle.batch.specs.Core.{Pooled, read_only, constrained_core, operated_core, served_core};
+// One record served.
+ghost use Rattle.std.specs.Prelude.{◌≡◌, None, Ok, length};
+ghost use Rattle.pool.specs.Sound.{Whole};
+ghost use Rattle.pool.specs.Lent.{world_in, SamePool};
+ghost use Rattle.pool.specs.Fresh.{fresh_with};
+ghost use Rattle.engine.specs.Core.{push_core, pop_core, clear_to_core};
+ghost use Rattle.engine.specs.Room.{IsReady};
+ghost use Rattle.batch.specs.Core.{top_shown, replied, constrained_core, operated_core, served_core};
 
-use crate::records::{Record, is_formed};
-use keys::{Kind, Masks};
-use pool::Head;
+use crate::records::{Operation, Record, operation_of};
+use engine::Engine;
+use keys::Words;
+use pool::{Entry, Head, Pool, Refusal};
 
-// What a record gives, and the head of the state afterwards.
+// What a record gives: how many entries were moved, a key, if one is given, with its value, and the
+// length that was asked for.
 #[derive(Clone, Copy)]
 pub struct Reply {
-    pub code: u8,
-    pub head: Head,
     pub moves: u32,
-    pub present: bool,
-    pub key0: u64,
-    pub key1: u64,
+    pub key: Option<Words>,
     pub value: u64,
     pub count: u32,
 }
 
-// A reply with a code and moves alone.
-fn bare(code: u8, head: Head, moves: u32) -> Reply
-    ensures { result ≡ record { code = code; head = head; moves = moves; present = false; key0 = 0; key1 = 0; value = 0; count = 0 } }
-{
-    Reply {
-        code,
-        head,
-        moves,
-        present: false,
-        key0: 0,
-        key1: 0,
-        value: 0,
-        count: 0,
-    }
-}
-
-// The heap becomes fresh, with this top if `topped` says so. Gives the head of its state.
-fn reset(
-    first: &mut [u32; 131],
-    last: &mut [u32; 131],
-    busy: &mut [u64; 3],
-    keys: &mut [u64],
-    values: &mut [u64],
-    next: &mut [u32],
-    back: &mut [u32],
-    kind: Kind,
-    topped: bool,
-    top0: u64,
-    top1: u64,
-) -> Head
-    requires next_len_bound { length next.old < 2 ^ 32 }
-    requires pooled { Pooled kind keys.old values.old next.old back.old }
-    ensures { world result (links first.new last.new next.new back.new busy.new) keys.new values.new ≡ fresh_core kind (length next.old) topped top0 top1 }
-{
-    pool::lay_fresh(keys, values, next, back);
-    let s = pool::fresh_state(kind, next.len() as u32, topped, top0, top1);
-    let f = s.first;
-    let l = s.last;
-    let b = s.busy;
-    *first = f;
-    *last = l;
-    *busy = b;
-    s.head
-}
-
-// A record whose fields are in order.
-fn operate(
-    head: Head,
-    masks: Masks,
-    first: &mut [u32; 131],
-    last: &mut [u32; 131],
-    busy: &mut [u64; 3],
-    keys: &mut [u64],
-    values: &mut [u64],
-    next: &mut [u32],
-    back: &mut [u32],
-    r: Record,
-) -> Reply
-    requires reads { Reads masks head.kind }
-    requires ready { Ready head (links first.old last.old next.old back.old busy.old) keys.old values.old }
-    ensures { answered result.code (world result.head (links first.new last.new next.new back.new busy.new) keys.new values.new) result.moves result.present result.key0 result.key1 result.value result.count ≡ operated_core (world head (links first.old last.old next.old back.old busy.old) keys.old values.old) r }
-{
-    let op = r.op;
-    if op == 1 {
-        return push(head, masks, first, last, busy, keys, values, next, back, r);
-    }
-    if op == 2 {
-        return pop(head, masks, first, last, busy, keys, values, next, back);
-    }
-    if op == 3 {
-        return constrain(head, masks, first, last, busy, keys, next, back);
-    }
-    if op == 4 {
-        return clear(head, first, last, busy, keys, values, next, back);
-    }
-    if op == 5 {
-        return clear_to(
-            head, masks, first, last, busy, keys, values, next, back, r.key0, r.key1,
-        );
-    }
-    read_only(head, op)
-}
-
-// The record's key and value.
-fn push(
-    head: Head,
-    masks: Masks,
-    first: &mut [u32; 131],
-    last: &mut [u32; 131],
-    busy: &mut [u64; 3],
-    keys: &mut [u64],
-    values: &mut [u64],
-    next: &mut [u32],
-    back: &mut [u32],
-    r: Record,
-) -> Reply
-    requires reads { Reads masks head.kind }
-    requires ready { Ready head (links first.old last.old next.old back.old busy.old) keys.old values.old }
-    ensures { answered result.code (world result.head (links first.new last.new next.new back.new busy.new) keys.new values.new) result.moves result.present result.key0 result.key1 result.value result.count ≡ push_core (world head (links first.old last.old next.old back.old busy.old) keys.old values.old) r.key0 r.key1 r.value }
-{
-    let e = engine::push(
-        head, masks, first, last, busy, keys, values, next, back, r.key0, r.key1, r.value,
-    );
-    let grown = e.head;
-    bare(e.code, grown, 0)
-}
-
-fn pop(
-    head: Head,
-    masks: Masks,
-    first: &mut [u32; 131],
-    last: &mut [u32; 131],
-    busy: &mut [u64; 3],
-    keys: &mut [u64],
-    values: &mut [u64],
-    next: &mut [u32],
-    back: &mut [u32],
-) -> Reply
-    requires reads { Reads masks head.kind }
-    requires ready { Ready head (links first.old last.old next.old back.old busy.old) keys.old values.old }
-    ensures { answered result.code (world result.head (links first.new last.new next.new back.new busy.new) keys.new values.new) result.moves result.present result.key0 result.key1 result.value result.count ≡ pop_core (world head (links first.old last.old next.old back.old busy.old) keys.old values.old) }
-{
-    let t = engine::pop(head, masks, first, last, busy, keys, values, next, back);
-    let left = t.head;
-    Reply {
-        code: t.code,
-        head: left,
-        moves: t.moves,
-        present: t.code == 0,
-        key0: t.key0,
-        key1: t.key1,
-        value: t.value,
-        count: 0,
-    }
-}
-
-fn constrain(
-    head: Head,
-    masks: Masks,
-    first: &mut [u32; 131],
-    last: &mut [u32; 131],
-    busy: &mut [u64; 3],
-    keys: &[u64],
-    next: &mut [u32],
-    back: &mut [u32],
-) -> Reply
-    requires reads { Reads masks head.kind }
-    requires fine { Fine (links first.old last.old next.old back.old busy.old) }
-    requires room { Room head.kind (length next.old) keys.now }
-    ensures { (values : List ℕ) → answered result.code (world result.head (links first.new last.new next.new back.new busy.new) keys.now values) result.moves result.present result.key0 result.key1 result.value result.count ≡ constrained_core (world head (links first.old last.old next.old back.old busy.old) keys.now values) }
-{
-    let m = engine::constrain(head, masks, first, last, busy, keys, next, back);
-    let topped = m.head;
-    bare(0, topped, m.moves)
-}
-
-fn clear(
-    head: Head,
-    first: &mut [u32; 131],
-    last: &mut [u32; 131],
-    busy: &mut [u64; 3],
-    keys: &mut [u64],
-    values: &mut [u64],
-    next: &mut [u32],
-    back: &mut [u32],
-) -> Reply
-    requires { Ready head (links first.old last.old next.old back.old busy.old) keys.old values.old }
-    ensures { answered result.code (world result.head (links first.new last.new next.new back.new busy.new) keys.new values.new) result.moves result.present result.key0 result.key1 result.value result.count ≡ clear_core (world head (links first.old last.old next.old back.old busy.old) keys.old values.old) }
-{
-    let fresh = reset(
-        first, last, busy, keys, values, next, back, head.kind, false, 0, 0,
-    );
-    bare(0, fresh, 0)
-}
-
-fn clear_to(
-    head: Head,
-    masks: Masks,
-    first: &mut [u32; 131],
-    last: &mut [u32; 131],
-    busy: &mut [u64; 3],
-    keys: &mut [u64],
-    values: &mut [u64],
-    next: &mut [u32],
-    back: &mut [u32],
-    key0: u64,
-    key1: u64,
-) -> Reply
-    requires reads { Reads masks head.kind }
-    requires ready { Ready head (links first.old last.old next.old back.old busy.old) keys.old values.old }
-    ensures { answered result.code (world result.head (links first.new last.new next.new back.new busy.new) keys.new values.new) result.moves result.present result.key0 result.key1 result.value result.count ≡ clear_to_core (world head (links first.old last.old next.old back.old busy.old) keys.old values.old) key0 key1 }
-{
-    let told = engine::key_code(head.kind, masks, key0, key1);
-    if told != 0 {
-        return bare(told, head, 0);
-    }
-    let fresh = reset(
-        first, last, busy, keys, values, next, back, head.kind, true, key0, key1,
-    );
-    bare(0, fresh, 0)
-}
-
-// Top, or the length, of any head.
-fn read_only(head: Head, op: u8) -> Reply
-    ensures { result ≡ read_only head op }
-{
-    if op == 6 {
-        return Reply {
-            code: 0,
-            head,
-            moves: 0,
-            present: head.topped,
-            key0: head.top0,
-            key1: head.top1,
+impl Reply {
+    // Moves alone.
+    pub fn moved(moves: u32) -> Reply
+        ensures { result ≡ record { moves = moves; key = None; value = 0; count = 0 } }
+    {
+        Reply {
+            moves,
+            key: None,
             value: 0,
             count: 0,
-        };
-    }
-    Reply {
-        code: 0,
-        head,
-        moves: 0,
-        present: false,
-        key0: 0,
-        key1: 0,
-        value: 0,
-        count: head.len,
+        }
     }
 }
 
-pub fn serve(
-    head: Head,
-    masks: Masks,
-    first: &mut [u32; 131],
-    last: &mut [u32; 131],
-    busy: &mut [u64; 3],
-    keys: &mut [u64],
-    values: &mut [u64],
-    next: &mut [u32],
-    back: &mut [u32],
-    r: Record,
-) -> Reply
-    requires reads { Reads masks head.kind }
-    requires ready { Ready head (links first.old last.old next.old back.old busy.old) keys.old values.old }
-    ensures { answered result.code (world result.head (links first.new last.new next.new back.new busy.new) keys.new values.new) result.moves result.present result.key0 result.key1 result.value result.count ≡ served_core (world head (links first.old last.old next.old back.old busy.old) keys.old values.old) r }
+// The heap becomes fresh, with this top.
+fn reset(engine: &mut Engine, pool: &mut Pool, top: Option<Words>)
+    requires { IsReady engine.old.state pool.old }
+    ensures same { SamePool pool.new pool.old }
+    ensures fresh { world_in engine.new.state pool.new ≡ fresh_with engine.old.state.head.kind (length pool.old.next.now) top }
 {
-    if is_formed(head.kind, masks, r) {
-        return operate(head, masks, first, last, busy, keys, values, next, back, r);
+    engine.state = pool::lay_fresh(pool, engine.state.head.kind, top);
+}
+
+fn push(engine: &mut Engine, pool: &mut Pool, entry: Entry) -> Result<Reply, Refusal>
+    requires { IsReady engine.old.state pool.old }
+    ensures same { SamePool pool.new pool.old }
+    ensures gives { replied result (world_in engine.new.state pool.new) ≡ push_core (world_in engine.old.state pool.old) entry.key.first entry.key.second entry.value }
+{
+    engine.push(pool, entry.key, entry.value)?;
+    Ok(Reply::moved(0))
+}
+
+fn pop(engine: &mut Engine, pool: &mut Pool) -> Result<Reply, Refusal>
+    requires { IsReady engine.old.state pool.old }
+    ensures same { SamePool pool.new pool.old }
+    ensures gives { replied result (world_in engine.new.state pool.new) ≡ pop_core (world_in engine.old.state pool.old) }
+{
+    let popped = engine.pop(pool)?;
+    Ok(Reply {
+        moves: popped.moves,
+        key: Some(popped.entry.key),
+        value: popped.entry.value,
+        count: 0,
+    })
+}
+
+fn constrain(engine: &mut Engine, pool: &mut Pool) -> Reply
+    requires { IsReady engine.old.state pool.old }
+    ensures same { SamePool pool.new pool.old }
+    ensures gives { replied (Ok result) (world_in engine.new.state pool.new) ≡ constrained_core (world_in engine.old.state pool.old) }
+{
+    // The keys are read while the links change, so each is lent on by itself, as the borrow checker asks.
+    let keys = &mut *pool.keys;
+    let next = &mut *pool.next;
+    let back = &mut *pool.back;
+    Reply::moved(engine.constrain(keys, next, back))
+}
+
+fn clear_to(engine: &mut Engine, pool: &mut Pool, key: Words) -> Result<Reply, Refusal>
+    requires { IsReady engine.old.state pool.old }
+    ensures same { SamePool pool.new pool.old }
+    ensures gives { replied result (world_in engine.new.state pool.new) ≡ clear_to_core (world_in engine.old.state pool.old) key.first key.second }
+{
+    engine::test_key(engine.reader, key)?;
+    reset(engine, pool, Some(key));
+    Ok(Reply::moved(0))
+}
+
+// The top, if there is one.
+fn top(head: Head) -> Option<Words>
+    ensures { result ≡ top_shown head }
+{
+    if head.topped {
+        return Some(head.top_words());
     }
-    bare(pool::MALFORMED, head, 0)
+    None
+}
+
+fn operate(engine: &mut Engine, pool: &mut Pool, operation: Operation) -> Result<Reply, Refusal>
+    requires { Whole (world_in engine.old.state pool.old) }
+    ensures same { SamePool pool.new pool.old }
+    ensures gives { replied result (world_in engine.new.state pool.new) ≡ operated_core (world_in engine.old.state pool.old) operation }
+{
+    match operation {
+        Operation::Push(entry) => push(engine, pool, entry),
+        Operation::Pop => pop(engine, pool),
+        Operation::Constrain => Ok(constrain(engine, pool)),
+        Operation::Clear => {
+            reset(engine, pool, None);
+            Ok(Reply::moved(0))
+        }
+        Operation::ClearTo(key) => clear_to(engine, pool, key),
+        Operation::Top => Ok(Reply {
+            key: top(engine.state.head),
+            ..Reply::moved(0)
+        }),
+        Operation::Length => Ok(Reply {
+            count: engine.state.head.len,
+            ..Reply::moved(0)
+        }),
+    }
+}
+
+pub fn serve(engine: &mut Engine, pool: &mut Pool, r: Record) -> Result<Reply, Refusal>
+    requires { Whole (world_in engine.old.state pool.old) }
+    ensures same { SamePool pool.new pool.old }
+    ensures gives { replied result (world_in engine.new.state pool.new) ≡ served_core (world_in engine.old.state pool.old) r }
+{
+    let asked = operation_of(engine.reader, r)?;
+    operate(engine, pool, asked)
 }

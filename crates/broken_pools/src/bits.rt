@@ -1,88 +1,87 @@
 // The busy words broken one bit at a time: "bit set exactly when the bucket isn't empty, bits above 128
 // zero".
-use crate::sample::{Sample, examine, is_wide, words};
-use crate::shown::{line, show};
-use keys::{Kind, REVERSED, SIGNED, Table};
-use pool::{FREE, Head};
+use crate::sample::{Sample, unsound};
+use crate::shown::show;
+use keys::{Kind, KindName, REVERSED, SIGNED, Table};
+use pool::{CHAINS, FREE, Head, State};
+use std::io;
 
-// 2 ^ 62, 2 ^ 63, and both.
-const QUARTER: u64 = 4611686018427387904;
+const QUARTER: u64 = 1 << 62;
 
-const HALF: u64 = 9223372036854775808;
+const HALF: u64 = 1 << 63;
 
-const BOTH: u64 = 13835058055282163712;
+const BOTH: u64 = QUARTER + HALF;
 
 // Kind 5 uses all the buckets only by a table of 128 bits: here a signed word, and then a reversed one.
-fn kind_of_ends(number: u32) -> Kind {
-    if number == 5 {
-        Kind::mixed(Table::of(64 + SIGNED, 64 + REVERSED, 0, 0))
-    } else {
-        Kind::bare(number)
+fn kind_of_ends(kind: Kind) -> Kind {
+    match kind.name() {
+        KindName::Mixed => Kind::mixed(Table::of(64 + SIGNED, 64 + REVERSED, 0, 0)),
+        _ => kind,
     }
 }
 
 // The top, and keys at distances 63 and 64 from it; of two words also at 127 and 128. The first words
 // of kind 5 are those of kind 2, and the second words those of kind 3. The floats are 2.0 and the zeros.
-fn keys(kind: u32) -> [u64; 10] {
-    match kind {
-        1 => [BOTH, HALF, 1, 0, 0, 0, 0, 0, 0, 0],
-        2 => [QUARTER, 0, HALF, 0, 0, 0, 0, 0, 0, 0],
-        3 => [0, QUARTER, HALF, 0, 0, 0, 0, 0, 0, 0],
-        4 => [BOTH, BOTH, BOTH, HALF, BOTH, 1, HALF, 7, 1, 7],
-        6 => [QUARTER, 0, HALF, 0, 0, 0, 0, 0, 0, 0],
-        _ => [QUARTER, 0, QUARTER, QUARTER, QUARTER, HALF, 0, 7, HALF, 7],
+fn keys_of_ends(kind: Kind) -> [u64; 10] {
+    match kind.name() {
+        KindName::Plain => [BOTH, HALF, 1, 0, 0, 0, 0, 0, 0, 0],
+        KindName::Signed => [QUARTER, 0, HALF, 0, 0, 0, 0, 0, 0, 0],
+        KindName::Reversed => [0, QUARTER, HALF, 0, 0, 0, 0, 0, 0, 0],
+        KindName::Pair => [BOTH, BOTH, BOTH, HALF, BOTH, 1, HALF, 7, 1, 7],
+        KindName::Mixed => [QUARTER, 0, QUARTER, QUARTER, QUARTER, HALF, 0, 7, HALF, 7],
+        KindName::Float => [QUARTER, 0, HALF, 0, 0, 0, 0, 0, 0, 0],
     }
 }
 
 // An entry at each end of each word that the kind has buckets for: in buckets 0, 63 and 64,
-fn ends_of_words(kind: u32) -> Sample {
-    let k = keys(kind);
-    let mut s = Sample {
-        head: Head {
-            kind: kind_of_ends(kind),
-            len: 3,
-            topped: true,
-            top0: k[0],
-            top1: 0,
+fn ends_of_words(kind: Kind) -> Sample {
+    let keys = keys_of_ends(kind);
+    let mut first = [0; CHAINS];
+    let mut last = [0; CHAINS];
+    (first[0], last[0]) = (1, 1);
+    (first[63], last[63]) = (2, 2);
+    (first[64], last[64]) = (3, 3);
+    (first[FREE], last[FREE]) = (4, 5);
+    let head = Head {
+        kind: kind_of_ends(kind),
+        len: 3,
+        topped: true,
+        top0: keys[0],
+        top1: 0,
+    };
+    Sample {
+        kind,
+        state: State {
+            head,
+            first,
+            last,
+            busy: [HALF + 1, 1, 0],
         },
-        first: [0; 131],
-        last: [0; 131],
-        busy: [HALF + 1, 1, 0],
-        keys: k,
+        keys,
         values: [11, 12, 13, 0, 0],
         next: [0, 0, 0, 5, 0],
         back: [0; 5],
-    };
-    s.first[0] = 1;
-    s.last[0] = 1;
-    s.first[63] = 2;
-    s.last[63] = 2;
-    s.first[64] = 3;
-    s.last[64] = 3;
-    s.first[FREE] = 4;
-    s.last[FREE] = 5;
-    s
+    }
 }
 
 // and of two words in 127 and 128 too: no slot is free.
-fn ends_of_pairs(kind: u32) -> Sample {
-    let mut s = ends_of_words(kind);
-    s.head.len = 5;
-    s.head.top1 = s.keys[1];
-    s.first[127] = 4;
-    s.last[127] = 4;
-    s.first[128] = 5;
-    s.last[128] = 5;
-    s.first[FREE] = 0;
-    s.last[FREE] = 0;
-    s.busy = [HALF + 1, HALF + 1, 1];
-    s.values = [11, 12, 13, 14, 15];
-    s.next[3] = 0;
-    s
+fn ends_of_pairs(kind: Kind) -> Sample {
+    let mut sample = ends_of_words(kind);
+    let mut state = sample.state;
+    state.head.len = 5;
+    state.head.top1 = sample.keys[1];
+    (state.first[127], state.last[127]) = (4, 4);
+    (state.first[128], state.last[128]) = (5, 5);
+    (state.first[FREE], state.last[FREE]) = (0, 0);
+    state.busy = [HALF + 1, HALF + 1, 1];
+    sample.state = state;
+    sample.values = [11, 12, 13, 14, 15];
+    sample.next[3] = 0;
+    sample
 }
 
-fn ends(kind: u32) -> Sample {
-    if is_wide(kind) {
+fn ends(kind: Kind) -> Sample {
+    if keys::is_wide(kind) {
         ends_of_pairs(kind)
     } else {
         ends_of_words(kind)
@@ -90,53 +89,36 @@ fn ends(kind: u32) -> Sample {
 }
 
 // The same with one of the 192 bits turned over.
-fn turned(kind: u32, bit: usize) -> Sample {
-    let mut s = ends(kind);
-    let one = 1u64 << (bit % 64);
-    if bit < 64 {
-        s.busy[0] = s.busy[0] ^ one;
-    } else {
-        if bit < 128 {
-            s.busy[1] = s.busy[1] ^ one;
-        } else {
-            s.busy[2] = s.busy[2] ^ one;
-        }
+fn turned(kind: Kind, bit: usize) -> Sample {
+    let mut sample = ends(kind);
+    if let Some(word) = sample.state.busy.get_mut(bit / 64) {
+        *word ^= 1 << (bit % 64);
     }
-    s
+    sample
 }
 
-// How many of the 192 bits are refused with code 2, each turned over by itself.
-fn refused(kind: u32) -> u8 {
-    let mut count: u8 = 0;
-    let mut bit: usize = 0;
-    while bit < 192 {
-        if examine(turned(kind, bit), words(kind), 5, 5, 5) == 2 {
-            count += 1;
-        }
-        bit += 1;
+pub fn each_word(rt: &impl Print, kind: Kind) -> io::Result<()> {
+    show(rt, "the ends of the busy words", ends(kind))?;
+    let wide = keys::is_wide(kind);
+    let bits = [
+        (0, true),
+        (63, true),
+        (64, true),
+        (127, wide),
+        (128, wide),
+        (1, false),
+        (65, false),
+        (129, false),
+        (191, false),
+    ];
+    for (bit, due) in bits {
+        let wrong = if due { "not set" } else { "set" };
+        let code = pool::code(turned(kind, bit).told());
+        println!(rt; "kind {}, busy bit {bit} {wrong}: {code}", kind.number)?;
     }
-    count
-}
-
-pub fn each_word(kind: u32) {
-    show(b"the ends of the busy words", ends(kind));
-    show(b"busy bit 0 not set", turned(kind, 0));
-    show(b"busy bit 63 not set", turned(kind, 63));
-    show(b"busy bit 64 not set", turned(kind, 64));
-    if is_wide(kind) {
-        show(b"busy bit 127 not set", turned(kind, 127));
-        show(b"busy bit 128 not set", turned(kind, 128));
-    } else {
-        show(b"busy bit 127 set", turned(kind, 127));
-        show(b"busy bit 128 set", turned(kind, 128));
-    }
-    show(b"busy bit 1 set", turned(kind, 1));
-    show(b"busy bit 65 set", turned(kind, 65));
-    show(b"busy bit 129 set", turned(kind, 129));
-    show(b"busy bit 191 set", turned(kind, 191));
-    line(
-        kind,
-        b"of 192 busy bits turned over, refused",
-        refused(kind),
-    );
+    let refused = unsound(192, |bit| turned(kind, bit));
+    println!(rt;
+        "kind {}, of 192 busy bits turned over, refused: {refused}",
+        kind.number
+    )
 }

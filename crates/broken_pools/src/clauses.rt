@@ -1,205 +1,168 @@
 // Each clause of "A pool is sound when" broken on its own.
-ghost use Rattle.std.specs.Prelude.{◌<◌};
-
-use crate::sample::{Sample, bucket, examine, is_wide, part, waiting, with_top, words};
+use crate::layout::Layout;
+use crate::sample::Sample;
 use crate::shown::{line, show};
 use keys::Kind;
-use pool::{FREE, Head, State, WAITING};
+use pool::{CHAINS, FREE, State, View, WAITING};
+use std::io;
 
-pub fn sound(kind: u32) {
-    show(b"sound, with a top", with_top(kind));
-    show(b"sound, entries waiting", waiting(kind));
+pub fn sound(rt: &impl Print, kind: Kind) -> io::Result<()> {
+    show(rt, "sound, with a top", Sample::with_top(kind))?;
+    show(rt, "sound, entries waiting", Sample::waiting(kind))
 }
 
 // "Every slot is on exactly one chain"; "length counts the slots outside the free chain".
-pub fn chains(kind: u32) {
-    let mut s = with_top(kind);
-    s.next[3] = 0;
-    s.last[FREE] = 4;
-    show(b"a slot on no chain", s);
-    shared(kind);
-    let mut s = with_top(kind);
-    s.head.len = 2;
-    show(b"the length too small", s);
-    let mut s = with_top(kind);
-    s.head.len = 4;
-    show(b"the length too great", s);
+pub fn chains(rt: &impl Print, kind: Kind) -> io::Result<()> {
+    let sample = Sample::with_top(kind);
+    let mut lost = sample;
+    lost.next[3] = 0;
+    lost.state.last[FREE] = 4;
+    show(rt, "a slot on no chain", lost)?;
+    show(rt, "a slot on two chains", shared(kind))?;
+    let fewer = sample.with(|s| s.state.head.len = 2);
+    show(rt, "the length too small", fewer)?;
+    let more = sample.with(|s| s.state.head.len = 4);
+    show(rt, "the length too great", more)
 }
 
 // A slot in bucket 0 and on the free chain at once, where all else is right: key and value are zero,
 // and so is the top.
-fn shared(kind: u32) {
-    let b = bucket(kind);
-    let mut s = with_top(kind);
-    s.first[b] = 0;
-    s.last[b] = 0;
-    s.head.top0 = 0;
-    s.head.top1 = 0;
-    s.head.len = 1;
-    s.keys = [0; 10];
-    s.values = [0; 5];
-    s.first[0] = 5;
-    s.last[0] = 5;
-    s.busy = [1, 0, 0];
-    s.first[FREE] = 1;
-    s.last[FREE] = 5;
-    s.next = [2, 3, 4, 5, 0];
-    s.back = [0; 5];
-    show(b"a slot on two chains", s);
+fn shared(kind: Kind) -> Sample {
+    let mut sample = Sample::with_top(kind).emptied();
+    let mut state = sample.state;
+    state.head.len = 1;
+    state.head.top0 = 0;
+    state.head.top1 = 0;
+    (state.first[0], state.last[0]) = (5, 5);
+    state.busy = [1, 0, 0];
+    sample.state = state;
+    sample
 }
 
 // "Next links run from first to last and end in 0; back links run the other way, but are 0 on the
 // free chain; an empty chain has first and last 0".
-pub fn links(kind: u32) {
-    let mut s = with_top(kind);
-    s.last[0] = 1;
-    show(b"a last link that is not the last slot", s);
-    let mut s = with_top(kind);
-    s.next[1] = 1;
-    show(b"next links in a circle", s);
-    let mut s = with_top(kind);
-    s.next[1] = 9;
-    show(b"a next link past the slots", s);
-    let mut s = with_top(kind);
-    s.back[1] = 0;
-    show(b"a back link not set", s);
-    let mut s = with_top(kind);
-    s.back[4] = 4;
-    show(b"a back link on the free chain", s);
-    let mut s = with_top(kind);
-    s.last[100] = 3;
-    show(b"an empty chain with a last link", s);
+pub fn links(rt: &impl Print, kind: Kind) -> io::Result<()> {
+    let sample = Sample::with_top(kind);
+    let wrong_last = sample.with(|s| s.state.last[0] = 1);
+    show(rt, "a last link that is not the last slot", wrong_last)?;
+    let circle = sample.with(|s| s.next[1] = 1);
+    show(rt, "next links in a circle", circle)?;
+    let outside = sample.with(|s| s.next[1] = 9);
+    show(rt, "a next link past the slots", outside)?;
+    let unset = sample.with(|s| s.back[1] = 0);
+    show(rt, "a back link not set", unset)?;
+    let set = sample.with(|s| s.back[4] = 4);
+    show(rt, "a back link on the free chain", set)?;
+    let half_empty = sample.with(|s| s.state.last[100] = 3);
+    show(rt, "an empty chain with a last link", half_empty)
 }
 
 // "With no top, the buckets are empty and both top words are 0".
-pub fn no_top(kind: u32) {
-    let mut s = waiting(kind);
-    s.first[0] = 1;
-    s.last[0] = 3;
-    s.first[WAITING] = 0;
-    s.last[WAITING] = 0;
-    s.busy = [1, 0, 0];
-    show(b"no top, a bucket that is not empty", s);
-    let mut s = waiting(kind);
-    s.head.top0 = 1;
-    show(b"no top, a first top word", s);
+pub fn no_top(rt: &impl Print, kind: Kind) -> io::Result<()> {
+    let sample = Sample::waiting(kind);
+    let mut state = sample.state;
+    (state.first[0], state.last[0]) = (1, 3);
+    (state.first[WAITING], state.last[WAITING]) = (0, 0);
+    state.busy = [1, 0, 0];
+    let mut busy = sample;
+    busy.state = state;
+    show(rt, "no top, a bucket that is not empty", busy)?;
+    let worded = sample.with(|s| s.state.head.top0 = 1);
+    show(rt, "no top, a first top word", worded)
 }
 
 // "With a top, the waiting chain is empty, every key is at most the top, and stands in the bucket of its
 // distance to the top".
-pub fn a_top(kind: u32) {
-    show(b"a top, and an entry waiting", moved_to(kind, WAITING));
-    above(kind);
-    show(b"an entry in another bucket", moved_to(kind, 6));
-}
-
-// The lower key stands on another chain.
-fn moved_to(kind: u32, chain: usize) -> Sample
-    requires { chain < 131 }
-{
-    let b = bucket(kind);
-    let mut s = with_top(kind);
-    s.first[b] = 0;
-    s.last[b] = 0;
-    s.first[chain] = 3;
-    s.last[chain] = 3;
-    s.busy = if chain == 6 { [65, 0, 0] } else { [1, 0, 0] };
-    s
+pub fn a_top(rt: &impl Print, kind: Kind) -> io::Result<()> {
+    let layout = Layout::of(kind);
+    let late = Sample::laid_out(kind, layout.moved_to(WAITING, [1, 0, 0]));
+    show(rt, "a top, and an entry waiting", late)?;
+    show(rt, "keys above the top", above(kind, layout))?;
+    let astray = Sample::laid_out(kind, layout.moved_to(6, [65, 0, 0]));
+    show(rt, "an entry in another bucket", astray)
 }
 
 // The lower key becomes the top and the other way round, so that the distances stay.
-fn above(kind: u32) {
-    let b = bucket(kind);
-    let mut s = with_top(kind);
-    s.first[0] = 3;
-    s.last[0] = 3;
-    s.first[b] = 1;
-    s.last[b] = 2;
-    if is_wide(kind) {
-        s.head.top0 = s.keys[4];
-        s.head.top1 = s.keys[5];
-    } else {
-        s.head.top0 = s.keys[2];
-    }
-    show(b"keys above the top", s);
+fn above(kind: Kind, layout: Layout) -> Sample {
+    let mut sample = Sample::laid_out(kind, layout);
+    sample.state.first[0] = 3;
+    sample.state.last[0] = 3;
+    sample.state.first[layout.chain] = 1;
+    sample.state.last[layout.chain] = 2;
+    sample.state.head.top0 = layout.lower.first;
+    sample.state.head.top1 = layout.lower.second;
+    sample
 }
 
 // "Free slots hold zero key and value".
-pub fn free(kind: u32) {
-    let mut s = with_top(kind);
-    if is_wide(kind) {
-        s.keys[8] = 1;
-    } else {
-        s.keys[4] = 1;
+pub fn free(rt: &impl Print, kind: Kind) -> io::Result<()> {
+    let wide = keys::is_wide(kind);
+    let sample = Sample::with_top(kind);
+    let keyed = sample.with(|s| s.keys[if wide { 8 } else { 4 }] = 1);
+    show(rt, "a free slot with a key", keyed)?;
+    let valued = sample.with(|s| s.values[4] = 1);
+    show(rt, "a free slot with a value", valued)?;
+    if !wide {
+        let worded = sample.with(|s| s.state.head.top1 = 1);
+        show(rt, "a second top word", worded)?;
     }
-    show(b"a free slot with a key", s);
-    let mut s = with_top(kind);
-    s.values[4] = 1;
-    show(b"a free slot with a value", s);
-    if !is_wide(kind) {
-        let mut s = with_top(kind);
-        s.head.top1 = 1;
-        show(b"a second top word", s);
-    }
+    Ok(())
 }
 
 // Code 1: a kind that is not 1 to 6, and "slice lengths unfit". Kind 5 is set with no table.
-pub fn unfit(kind: u32) {
-    let k = words(kind);
-    let s = with_top(kind);
-    line(kind, b"a value short", examine(s, k, 4, 5, 5));
-    line(kind, b"key words that do not fit", examine(s, 6, 5, 5, 5));
-    line(kind, b"a next link short", examine(s, k, 5, 4, 5));
-    line(kind, b"a back link short", examine(s, k, 5, 5, 4));
-    let mut t = s;
-    t.head = of_kind(s.head, 0);
-    line(kind, b"the kind set to 0", examine(t, k, 5, 5, 5));
-    t.head = of_kind(s.head, 5);
-    line(kind, b"the kind set to 5", examine(t, k, 5, 5, 5));
-    t.head = of_kind(s.head, 7);
-    line(kind, b"the kind set to 7", examine(t, k, 5, 5, 5));
-}
-
-// The head with another kind, and no table.
-fn of_kind(head: Head, number: u32) -> Head {
-    Head {
-        kind: Kind::bare(number),
-        len: head.len,
-        topped: head.topped,
-        top0: head.top0,
-        top1: head.top1,
+pub fn unfit(rt: &impl Print, kind: Kind) -> io::Result<()> {
+    let sample = Sample::with_top(kind);
+    let view = sample.view();
+    let (keys, values) = (&sample.keys[..6], &sample.values[..4]);
+    let (next, back) = (&sample.next[..4], &sample.back[..4]);
+    let views = [
+        ("a value short", View { values, ..view }),
+        ("key words that do not fit", View { keys, ..view }),
+        ("a next link short", View { next, ..view }),
+        ("a back link short", View { back, ..view }),
+    ];
+    for (text, view) in views {
+        line(rt, kind, text, pool::examine(&sample.state, view))?;
     }
+    let kinds = [
+        ("the kind set to 0", 0),
+        ("the kind set to 5", 5),
+        ("the kind set to 7", 7),
+    ];
+    for (text, number) in kinds {
+        let other = sample.with(|s| s.state.head.kind = Kind::bare(number));
+        show(rt, text, other)?;
+    }
+    Ok(())
 }
 
 // What only keys of two words can break: their second words.
-pub fn second_words(kind: u32) {
-    let mut s = waiting(kind);
-    s.head.top1 = 1;
-    show(b"no top, a second top word", s);
-    let mut s = with_top(kind);
-    s.keys[9] = 1;
-    show(b"a free slot with a second key word", s);
+pub fn second_words(rt: &impl Print, kind: Kind) -> io::Result<()> {
+    let topped = Sample::waiting(kind).with(|s| s.state.head.top1 = 1);
+    show(rt, "no top, a second top word", topped)?;
+    let keyed = Sample::with_top(kind).with(|s| s.keys[9] = 1);
+    show(rt, "a free slot with a second key word", keyed)
 }
 
 // 4,096 slots are the most: one more is not fit, and all zero they are fit and not sound.
-pub fn too_many_slots() {
-    let head = waiting(1).head;
-    let s = State {
-        head,
-        first: [0; 131],
-        last: [0; 131],
+pub fn too_many_slots(rt: &impl Print) -> io::Result<()> {
+    let kind = Kind::bare(1);
+    let state = State {
+        head: Sample::waiting(kind).state.head,
+        first: [0; CHAINS],
+        last: [0; CHAINS],
         busy: [0; 3],
     };
     let words = [0; 4097];
     let links = [0; 4097];
-    line(1, b"4,097 slots", zeros(s, &words, &links, 4097));
-    line(
-        1,
-        b"4,096 slots on no chain",
-        zeros(s, &words, &links, 4096),
-    );
-}
-
-fn zeros(s: State, words: &[u64], links: &[u32], n: usize) -> u8 {
-    part(s, words, words, links, links, n, n, n, n)
+    for (text, slots) in [("4,097 slots", 4097), ("4,096 slots on no chain", 4096)] {
+        let view = View {
+            keys: &words[..slots],
+            values: &words[..slots],
+            next: &links[..slots],
+            back: &links[..slots],
+        };
+        line(rt, kind, text, pool::examine(&state, view))?;
+    }
+    Ok(())
 }

@@ -1,172 +1,133 @@
 // What only floats can break: "a NaN in a pool or top is code 2", "minus zero just below plus zero".
-ghost use Rattle.std.specs.Prelude.{◌<◌};
+use crate::layout::{Layout, MINUS_ONE};
+use crate::sample::{Sample, unsound};
+use crate::shown::show;
+use keys::Kind;
+use std::io;
 
-use crate::sample::{MINUS_ONE, Sample, emptied, examine, waiting, with_top};
-use crate::shown::{line, show};
-
-const MINUS_ZERO: u64 = 9223372036854775808;
+const MINUS_ZERO: u64 = 1 << 63;
 
 // The infinities, and their patterns plus one and with every lower bit set: the first and the last NaN.
-const INFINITY: u64 = 9218868437227405312;
+const INFINITY: u64 = 0x7ff0_0000_0000_0000;
 
-const FIRST_NAN: u64 = 9218868437227405313;
+const FIRST_NAN: u64 = 0x7ff0_0000_0000_0001;
 
-const LAST_NAN: u64 = 9223372036854775807;
+const LAST_NAN: u64 = 0x7fff_ffff_ffff_ffff;
 
-const MINUS_INFINITY: u64 = 18442240474082181120;
+const MINUS_INFINITY: u64 = 0xfff0_0000_0000_0000;
 
-const FIRST_MINUS_NAN: u64 = 18442240474082181121;
+const FIRST_MINUS_NAN: u64 = 0xfff0_0000_0000_0001;
 
-const LAST_MINUS_NAN: u64 = 18446744073709551615;
+const LAST_MINUS_NAN: u64 = 0xffff_ffff_ffff_ffff;
 
-// The top twice, in bucket 0, and this key in its own.
-fn laid_out(top: u64, key: u64, bucket: usize, busy: [u64; 3]) -> Sample
-    requires { bucket < 131 }
-{
-    let mut s = with_top(6);
-    s.head.top0 = top;
-    s.first[52] = 0;
-    s.last[52] = 0;
-    s.first[bucket] = 3;
-    s.last[bucket] = 3;
-    s.busy = busy;
-    s.keys = [top, top, key, 0, 0, 0, 0, 0, 0, 0];
-    s
-}
+const EDGES: [(&str, u64); 3] = [
+    ("sound, the infinity", INFINITY),
+    ("the first NaN", FIRST_NAN),
+    ("the last NaN", LAST_NAN),
+];
+
+const MINUS_EDGES: [(&str, u64); 3] = [
+    ("sound, minus the infinity", MINUS_INFINITY),
+    ("minus the first NaN", FIRST_MINUS_NAN),
+    ("minus the last NaN", LAST_MINUS_NAN),
+];
 
 // Only their order and their distance tell the zeros apart.
-pub fn zeros() {
-    show(
-        b"sound, minus zero below plus zero",
-        laid_out(0, MINUS_ZERO, 64, [1, 1, 0]),
-    );
-    let mut s = laid_out(0, MINUS_ONE, 64, [1, 1, 0]);
-    s.keys[1] = MINUS_ZERO;
-    show(b"minus zero in the bucket of plus zero", s);
-    show(
-        b"plus zero below minus zero",
-        laid_out(MINUS_ZERO, 0, 64, [1, 1, 0]),
-    );
+pub fn zeros(rt: &impl Print) -> io::Result<()> {
+    let kind = Kind::bare(6);
+    let busy = [1, 1, 0];
+    let below = Sample::laid_out(kind, Layout::one_word(0, MINUS_ZERO, 64, busy));
+    show(rt, "sound, minus zero below plus zero", below)?;
+    let mut equal = Sample::laid_out(kind, Layout::one_word(0, MINUS_ONE, 64, busy));
+    equal.keys[1] = MINUS_ZERO;
+    show(rt, "minus zero in the bucket of plus zero", equal)?;
+    let above = Sample::laid_out(kind, Layout::one_word(MINUS_ZERO, 0, 64, busy));
+    show(rt, "plus zero below minus zero", above)
 }
 
 // This key waits.
 fn in_wait(key: u64) -> Sample {
-    let mut s = waiting(6);
-    s.keys[2] = key;
-    s
-}
-
-pub fn waiting_edges() {
-    show(b"sound, the infinity waiting", in_wait(INFINITY));
-    show(b"the first NaN waiting", in_wait(FIRST_NAN));
-    show(b"the last NaN waiting", in_wait(LAST_NAN));
-    show(
-        b"sound, minus the infinity waiting",
-        in_wait(MINUS_INFINITY),
-    );
-    show(b"minus the first NaN waiting", in_wait(FIRST_MINUS_NAN));
-    show(b"minus the last NaN waiting", in_wait(LAST_MINUS_NAN));
+    Sample::waiting(Kind::bare(6)).with(|s| s.keys[2] = key)
 }
 
 // This key stands in the bucket of minus the infinity's distance to -1.0. With the sign bit a NaN has
 // the same distance, and its pattern lies below: nothing else is wrong.
 fn in_a_bucket(key: u64) -> Sample {
-    laid_out(MINUS_ONE, key, 63, [MINUS_ZERO + 1, 0, 0])
-}
-
-pub fn bucket_edges() {
-    show(
-        b"sound, minus the infinity in a bucket",
-        in_a_bucket(MINUS_INFINITY),
-    );
-    show(
-        b"minus the first NaN in a bucket",
-        in_a_bucket(FIRST_MINUS_NAN),
-    );
-    show(
-        b"minus the last NaN in a bucket",
-        in_a_bucket(LAST_MINUS_NAN),
-    );
+    let busy = [MINUS_ZERO + 1, 0, 0];
+    Sample::laid_out(Kind::bare(6), Layout::one_word(MINUS_ONE, key, 63, busy))
 }
 
 // This key is the top of an empty pool.
 fn at_the_top(key: u64) -> Sample {
-    let mut s = emptied(waiting(6));
-    s.head.topped = true;
-    s.head.top0 = key;
-    s
+    let mut sample = Sample::waiting(Kind::bare(6)).emptied();
+    sample.state.head.topped = true;
+    sample.state.head.top0 = key;
+    sample
 }
 
-pub fn top_edges() {
-    show(b"sound, the infinity as top", at_the_top(INFINITY));
-    show(b"the first NaN as top", at_the_top(FIRST_NAN));
-    show(b"the last NaN as top", at_the_top(LAST_NAN));
-    show(
-        b"sound, minus the infinity as top",
-        at_the_top(MINUS_INFINITY),
-    );
-    show(b"minus the first NaN as top", at_the_top(FIRST_MINUS_NAN));
-    show(b"minus the last NaN as top", at_the_top(LAST_MINUS_NAN));
+// A line for each of these keys in that place.
+fn show_each<F: Fn(u64) -> Sample>(
+    rt: &impl Print,
+    keys: [(&str, u64); 3],
+    place: &str,
+    sample_with: F,
+) -> io::Result<()>
+    requires { F.IsAlwaysCallable sample_with }
+{
+    for (name, key) in keys {
+        let code = pool::code(sample_with(key).told());
+        println!(rt; "kind 6, {name} {place}: {code}")?;
+    }
+    Ok(())
+}
+
+pub fn waiting_edges(rt: &impl Print) -> io::Result<()> {
+    show_each(rt, EDGES, "waiting", in_wait)?;
+    show_each(rt, MINUS_EDGES, "waiting", in_wait)
+}
+
+pub fn bucket_edges(rt: &impl Print) -> io::Result<()> {
+    show_each(rt, MINUS_EDGES, "in a bucket", in_a_bucket)
+}
+
+pub fn top_edges(rt: &impl Print) -> io::Result<()> {
+    show_each(rt, EDGES, "as top", at_the_top)?;
+    show_each(rt, MINUS_EDGES, "as top", at_the_top)
 }
 
 // The key with one of its 64 bits turned over.
-fn turned(top: bool, key: u64, bit: usize) -> Sample {
-    let other = key ^ (1u64 << (bit % 64));
-    if top {
-        at_the_top(other)
-    } else {
-        in_wait(other)
-    }
+fn turned(key: u64, bit: usize) -> u64 {
+    key ^ (1 << (bit % 64))
 }
 
-// How many of the 64 bits are refused with code 2, each turned over by itself.
-fn refused(top: bool, key: u64) -> u8 {
-    let mut count: u8 = 0;
-    let mut bit: usize = 0;
-    while bit < 64 {
-        if examine(turned(top, key, bit), 5, 5, 5, 5) == 2 {
-            count += 1;
-        }
-        bit += 1;
+// How many of the 64 bits are refused, each turned over by itself: the 52 below the exponent, and no
+// other. Without a bit of its exponent it is a number, and with the other sign an infinity.
+pub fn each_bit_of_an_infinity(rt: &impl Print) -> io::Result<()> {
+    let keys = [
+        ("the infinity", INFINITY),
+        ("minus the infinity", MINUS_INFINITY),
+    ];
+    for (name, key) in keys {
+        let waiting = unsound(64, |bit| in_wait(turned(key, bit)));
+        println!(rt; "kind 6, of 64 bits of {name} waiting, turned over, refused: {waiting}")?;
+        let top = unsound(64, |bit| at_the_top(turned(key, bit)));
+        println!(rt; "kind 6, of 64 bits of {name} as top, turned over, refused: {top}")?;
     }
-    count
-}
-
-// The 52 below the exponent, and no other: without a bit of its exponent it is a number, and with the
-// other sign an infinity.
-pub fn each_bit_of_an_infinity() {
-    line(
-        6,
-        b"of 64 bits of the infinity waiting, turned over, refused",
-        refused(false, INFINITY),
-    );
-    line(
-        6,
-        b"of 64 bits of the infinity as top, turned over, refused",
-        refused(true, INFINITY),
-    );
-    line(
-        6,
-        b"of 64 bits of minus the infinity waiting, turned over, refused",
-        refused(false, MINUS_INFINITY),
-    );
-    line(
-        6,
-        b"of 64 bits of minus the infinity as top, turned over, refused",
-        refused(true, MINUS_INFINITY),
-    );
+    Ok(())
 }
 
 // Where there is no key the words are zero, and minus zero is not.
-pub fn nowhere() {
-    let mut s = with_top(6);
-    s.keys[4] = FIRST_NAN;
-    show(b"a free slot with a NaN", s);
-    s.keys[4] = MINUS_ZERO;
-    show(b"a free slot with minus zero", s);
-    let mut t = waiting(6);
-    t.head.top0 = FIRST_NAN;
-    show(b"no top, a NaN as first top word", t);
-    t.head.top0 = MINUS_ZERO;
-    show(b"no top, minus zero as first top word", t);
+pub fn nowhere(rt: &impl Print) -> io::Result<()> {
+    let keys = [("a NaN", FIRST_NAN), ("minus zero", MINUS_ZERO)];
+    let sample = Sample::with_top(Kind::bare(6));
+    for (name, key) in keys {
+        let code = pool::code(sample.with(|s| s.keys[4] = key).told());
+        println!(rt; "kind 6, a free slot with {name}: {code}")?;
+    }
+    let sample = Sample::waiting(Kind::bare(6));
+    for (name, key) in keys {
+        let code = pool::code(sample.with(|s| s.state.head.top0 = key).told());
+        println!(rt; "kind 6, no top, {name} as first top word: {code}")?;
+    }
+    Ok(())
 }

@@ -5,59 +5,63 @@
 mod bits;
 mod clauses;
 mod floats;
+mod layout;
 mod mixed;
 mod sample;
 mod shown;
 mod tables;
 
-fn kind(k: u32) {
-    clauses::sound(k);
-    clauses::chains(k);
-    clauses::links(k);
-    bits::each_word(k);
-    clauses::no_top(k);
-    clauses::a_top(k);
-    clauses::free(k);
-    clauses::unfit(k);
+use keys::Kind;
+use std::io;
+
+fn every_kind(rt: &impl Print, kind: Kind) -> io::Result<()> {
+    clauses::sound(rt, kind)?;
+    clauses::chains(rt, kind)?;
+    clauses::links(rt, kind)?;
+    bits::each_word(rt, kind)?;
+    clauses::no_top(rt, kind)?;
+    clauses::a_top(rt, kind)?;
+    clauses::free(rt, kind)?;
+    clauses::unfit(rt, kind)
 }
 
 // Every kind but 5 has no table.
-fn bare_kind(k: u32) {
-    kind(k);
-    tables::in_another_kind(k);
+fn bare_kind(rt: &impl Print, kind: Kind) -> io::Result<()> {
+    every_kind(rt, kind)?;
+    tables::in_another_kind(rt, kind)
 }
 
-fn mixed_kind() {
-    kind(5);
-    clauses::second_words(5);
-    tables::number_of_parts();
-    tables::size_of_parts();
-    tables::each_code();
-    mixed::sound();
-    mixed::sorts();
-    mixed::above_the_total();
-    mixed::words();
-    mixed::each_bit_of_a_key();
-    mixed::each_bit_of_a_top();
+fn mixed_kind(rt: &impl Print) -> io::Result<()> {
+    let kind = Kind::mixed(layout::planning());
+    every_kind(rt, kind)?;
+    clauses::second_words(rt, kind)?;
+    tables::number_of_parts(rt)?;
+    tables::size_of_parts(rt)?;
+    tables::each_code(rt)?;
+    mixed::sound(rt)?;
+    mixed::sorts(rt)?;
+    mixed::above_the_total(rt)?;
+    mixed::key_words(rt)?;
+    mixed::each_bit_of_a_key(rt)?;
+    mixed::each_bit_of_a_top(rt)
 }
 
-fn float_kind() {
-    bare_kind(6);
-    floats::zeros();
-    floats::waiting_edges();
-    floats::bucket_edges();
-    floats::top_edges();
-    floats::each_bit_of_an_infinity();
-    floats::nowhere();
+fn float_kind(rt: &impl Print) -> io::Result<()> {
+    bare_kind(rt, Kind::bare(6))?;
+    floats::zeros(rt)?;
+    floats::waiting_edges(rt)?;
+    floats::bucket_edges(rt)?;
+    floats::top_edges(rt)?;
+    floats::each_bit_of_an_infinity(rt)?;
+    floats::nowhere(rt)
 }
 
-fn main() {
-    bare_kind(1);
-    bare_kind(2);
-    bare_kind(3);
-    bare_kind(4);
-    clauses::second_words(4);
-    mixed_kind();
-    float_kind();
-    clauses::too_many_slots();
+fn main(rt: HostRuntime) -> io::Result<()> {
+    for number in 1..5 {
+        bare_kind(&rt, Kind::bare(number))?;
+    }
+    clauses::second_words(&rt, Kind::bare(4))?;
+    mixed_kind(&rt)?;
+    float_kind(&rt)?;
+    clauses::too_many_slots(&rt)
 }

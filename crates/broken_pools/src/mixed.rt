@@ -1,18 +1,17 @@
 // What only mixed keys can break: "packed high part first into the two words, unused high bits zero";
 // "a key with a bit set above its total is .. in a pool or top code 2"; "the pool has 2n key words".
-ghost use Rattle.std.specs.Prelude.{◌<◌};
-
-use crate::sample::{Sample, emptied, examine, planning, waiting, with_top};
+use crate::layout::{Layout, planning, words};
+use crate::sample::{Sample, unsound};
 use crate::shown::{line, show};
 use crate::tables::{by_table, zero_keys};
-use keys::{REVERSED, SIGNED, Table};
+use keys::{Kind, REVERSED, SIGNED, Table, Words};
+use pool::View;
+use std::io;
 
 // 2 ^ 56, the lowest bit above the planning desk's total, and all the bits below it.
-const ABOVE: u64 = 72057594037927936;
+const ABOVE: u64 = 1 << 56;
 
-const BELOW: u64 = 72057594037927935;
-
-const ONES: u64 = 18446744073709551615;
+const BELOW: u64 = ABOVE - 1;
 
 // The tables of the least total, 16 bits; of 64 and 72, the last in one word and the first in two; and
 // of the greatest, 128.
@@ -32,213 +31,132 @@ fn four_parts() -> Table {
     Table::of(32, 32 + SIGNED, 32 + REVERSED, 32)
 }
 
-// With a top, by another table: the two equal keys in bucket 0, the lower one in its own.
-fn laid_out(table: Table, keys: [u64; 10], bucket: usize, busy: [u64; 3]) -> Sample
-    requires { bucket < 131 }
-{
-    let mut s = by_table(with_top(5), table);
-    s.head.top0 = keys[0];
-    s.head.top1 = keys[1];
-    s.first[3] = 0;
-    s.last[3] = 0;
-    s.first[bucket] = 3;
-    s.last[bucket] = 3;
-    s.busy = busy;
-    s.keys = keys;
-    s
+fn planned() -> Sample {
+    Sample::with_top(Kind::mixed(planning()))
+}
+
+fn planned_waiting() -> Sample {
+    Sample::waiting(Kind::mixed(planning()))
 }
 
 // 8 and 5 at the top, 7 and 9 below: 8 * 2 ^ 8 + 5 and 7 * 2 ^ 8 + 9. They differ from bit 11 down.
 fn of_16_bits() -> Sample {
-    laid_out(
-        two_bytes(),
-        [0, 2053, 0, 2053, 0, 1801, 0, 0, 0, 0],
-        12,
-        [4097, 0, 0],
-    )
+    let layout = Layout::two_words(words(0, 2053), words(0, 1801), 12, [4097, 0, 0]);
+    Sample::laid_out(Kind::mixed(two_bytes()), layout)
 }
 
 // 8, 1, 5 and 3 at the top; 8, -1, 4 and 9 below, by the sign of the second part alone. They differ
 // from its highest bit down, bit 95. The words are 8 * 2 ^ 32 + 1 and 5 * 2 ^ 32 + 3; below,
 // 9 * 2 ^ 32 - 1 and 4 * 2 ^ 32 + 9.
 fn of_128_bits() -> Sample {
-    laid_out(
-        four_parts(),
-        [
-            34359738369,
-            21474836483,
-            34359738369,
-            21474836483,
-            38654705663,
-            17179869193,
-            0,
-            0,
-            0,
-            0,
-        ],
-        96,
-        [1, 4294967296, 0],
-    )
+    let top = words(34359738369, 21474836483);
+    let lower = words(38654705663, 17179869193);
+    let layout = Layout::two_words(top, lower, 96, [1, 1 << 32, 0]);
+    Sample::laid_out(Kind::mixed(four_parts()), layout)
 }
 
-pub fn sound() {
-    show(b"sound, two parts of 8 bits", of_16_bits());
-    show(b"sound, four parts of 32 bits", of_128_bits());
-    let mut s = waiting(5);
-    s.keys[5] = BELOW;
-    show(b"sound, a key with all of 56 bits set", s);
-    let mut s = zero_keys(four_parts());
-    s.keys[4] = ONES;
-    s.keys[5] = ONES;
-    show(b"sound, a key with all of 128 bits set", s);
+pub fn sound(rt: &impl Print) -> io::Result<()> {
+    show(rt, "sound, two parts of 8 bits", of_16_bits())?;
+    show(rt, "sound, four parts of 32 bits", of_128_bits())?;
+    let full = planned_waiting().with(|s| s.keys[5] = BELOW);
+    show(rt, "sound, a key with all of 56 bits set", full)?;
+    let mut full = zero_keys(four_parts());
+    full.keys[4] = u64::MAX;
+    full.keys[5] = u64::MAX;
+    show(rt, "sound, a key with all of 128 bits set", full)
 }
 
 // The table says which key is above: the lower keys read by another one are above the top.
-pub fn sorts() {
-    show(
-        b"a reversed part read as unsigned",
-        by_table(with_top(5), Table::of(32, 16, 8, 0)),
-    );
-    show(
-        b"a signed part read as unsigned",
-        by_table(of_128_bits(), Table::of(32, 32, 32 + REVERSED, 32)),
-    );
+pub fn sorts(rt: &impl Print) -> io::Result<()> {
+    let straight = by_table(planned(), Table::of(32, 16, 8, 0));
+    show(rt, "a reversed part read as unsigned", straight)?;
+    let unsigned = by_table(of_128_bits(), Table::of(32, 32, 32 + REVERSED, 32));
+    show(rt, "a signed part read as unsigned", unsigned)
 }
 
 // The parts stay as they were, and with them order and distance: nothing else is wrong.
-pub fn above_the_total() {
-    let mut s = with_top(5);
-    s.keys[5] = s.keys[5] ^ ABOVE;
-    show(b"a held key with bit 56", s);
-    let mut s = with_top(5);
-    s.keys[4] = 1;
-    show(b"a held key with a first word", s);
-    let mut s = waiting(5);
-    s.keys[5] = s.keys[5] ^ ABOVE;
-    show(b"a waiting key with bit 56", s);
-    let mut s = waiting(5);
-    s.keys[4] = 1;
-    show(b"a waiting key with a first word", s);
-    let mut s = with_top(5);
-    let top1 = s.head.top1 ^ ABOVE;
-    s.head.top1 = top1;
-    show(b"a top with bit 56", s);
-    let mut s = with_top(5);
-    s.head.top0 = 1;
-    show(b"a top with a first word", s);
+pub fn above_the_total(rt: &impl Print) -> io::Result<()> {
+    let (held, waiting) = (planned(), planned_waiting());
+    let wide = held.with(|s| s.keys[5] ^= ABOVE);
+    show(rt, "a held key with bit 56", wide)?;
+    let worded = held.with(|s| s.keys[4] = 1);
+    show(rt, "a held key with a first word", worded)?;
+    let wide = waiting.with(|s| s.keys[5] ^= ABOVE);
+    show(rt, "a waiting key with bit 56", wide)?;
+    let worded = waiting.with(|s| s.keys[4] = 1);
+    show(rt, "a waiting key with a first word", worded)?;
+    let wide = held.with(|s| s.state.head.top1 ^= ABOVE);
+    show(rt, "a top with bit 56", wide)?;
+    let worded = held.with(|s| s.state.head.top0 = 1);
+    show(rt, "a top with a first word", worded)
 }
 
 // Where no bit is above the total, a first top word breaks only "with no top, .. both top words are 0".
-pub fn words() {
-    let mut s = zero_keys(four_parts());
-    s.head.top0 = 1;
-    show(b"four parts, no top, a first top word", s);
-    line(
-        5,
-        b"two parts of 8 bits, a key word for each slot",
-        examine(of_16_bits(), 5, 5, 5, 5),
-    );
+pub fn key_words(rt: &impl Print) -> io::Result<()> {
+    let topped = zero_keys(four_parts()).with(|s| s.state.head.top0 = 1);
+    show(rt, "four parts, no top, a first top word", topped)?;
+    let sample = of_16_bits();
+    let view = View {
+        keys: &sample.keys[..5],
+        ..sample.view()
+    };
+    let text = "two parts of 8 bits, a key word for each slot";
+    line(rt, sample.kind, text, pool::examine(&sample.state, view))
 }
 
-// One bit alone, of 128, in a key that waits,
-fn in_a_key(table: Table, bit: usize) -> Sample {
-    let mut s = zero_keys(table);
+// Two words with one bit alone, of 128.
+fn one_bit(bit: usize) -> Words {
     let one = 1u64 << (bit % 64);
     if bit < 64 {
-        s.keys[5] = one;
+        words(0, one)
     } else {
-        s.keys[4] = one;
+        words(one, 0)
     }
-    s
+}
+
+// That bit in a key that waits,
+fn in_a_key(table: Table, bit: usize) -> Sample {
+    let key = one_bit(bit);
+    let mut sample = zero_keys(table);
+    sample.keys[4] = key.first;
+    sample.keys[5] = key.second;
+    sample
 }
 
 // and in the top of an empty pool.
 fn in_the_top(table: Table, bit: usize) -> Sample {
-    let mut s = emptied(zero_keys(table));
-    s.head.topped = true;
-    let one = 1u64 << (bit % 64);
-    if bit < 64 {
-        s.head.top1 = one;
-    } else {
-        s.head.top0 = one;
+    let top = one_bit(bit);
+    let mut sample = zero_keys(table).emptied();
+    sample.state.head.topped = true;
+    sample.state.head.top0 = top.first;
+    sample.state.head.top1 = top.second;
+    sample
+}
+
+// The tables, and their totals.
+fn tables() -> [(u8, Table); 5] {
+    [
+        (16, two_bytes()),
+        (56, planning()),
+        (64, filling_a_word()),
+        (72, a_byte_more()),
+        (128, four_parts()),
+    ]
+}
+
+// How many of the 128 bits are refused, each by itself: all that are not below the total, and no other.
+pub fn each_bit_of_a_key(rt: &impl Print) -> io::Result<()> {
+    for (total, table) in tables() {
+        let refused = unsound(128, |bit| in_a_key(table, bit));
+        println!(rt; "kind 5, of 128 bits in a key of {total}, refused: {refused}")?;
     }
-    s
+    Ok(())
 }
 
-fn with_bit(top: bool, table: Table, bit: usize) -> Sample {
-    if top {
-        in_the_top(table, bit)
-    } else {
-        in_a_key(table, bit)
+pub fn each_bit_of_a_top(rt: &impl Print) -> io::Result<()> {
+    for (total, table) in tables() {
+        let refused = unsound(128, |bit| in_the_top(table, bit));
+        println!(rt; "kind 5, of 128 bits in a top of {total}, refused: {refused}")?;
     }
-}
-
-// How many of the 128 bits are refused with code 2, each by itself.
-fn refused(top: bool, table: Table) -> u8 {
-    let mut count: u8 = 0;
-    let mut bit: usize = 0;
-    while bit < 128 {
-        if examine(with_bit(top, table, bit), 10, 5, 5, 5) == 2 {
-            count += 1;
-        }
-        bit += 1;
-    }
-    count
-}
-
-// All that are not below the total, and no other.
-pub fn each_bit_of_a_key() {
-    line(
-        5,
-        b"of 128 bits in a key of 16, refused",
-        refused(false, two_bytes()),
-    );
-    line(
-        5,
-        b"of 128 bits in a key of 56, refused",
-        refused(false, planning()),
-    );
-    line(
-        5,
-        b"of 128 bits in a key of 64, refused",
-        refused(false, filling_a_word()),
-    );
-    line(
-        5,
-        b"of 128 bits in a key of 72, refused",
-        refused(false, a_byte_more()),
-    );
-    line(
-        5,
-        b"of 128 bits in a key of 128, refused",
-        refused(false, four_parts()),
-    );
-}
-
-pub fn each_bit_of_a_top() {
-    line(
-        5,
-        b"of 128 bits in a top of 16, refused",
-        refused(true, two_bytes()),
-    );
-    line(
-        5,
-        b"of 128 bits in a top of 56, refused",
-        refused(true, planning()),
-    );
-    line(
-        5,
-        b"of 128 bits in a top of 64, refused",
-        refused(true, filling_a_word()),
-    );
-    line(
-        5,
-        b"of 128 bits in a top of 72, refused",
-        refused(true, a_byte_more()),
-    );
-    line(
-        5,
-        b"of 128 bits in a top of 128, refused",
-        refused(true, four_parts()),
-    );
+    Ok(())
 }

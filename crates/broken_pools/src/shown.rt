@@ -1,17 +1,13 @@
 // Lines of output.
-use crate::sample::{Sample, examine, words};
+use crate::sample::Sample;
+use keys::Kind;
+use pool::Refusal;
+use std::io;
 
-pub fn line(kind: u32, text: &[u8], code: u8) {
-    io::write_all(1, b"kind ");
-    io::print_decimal(1, kind as u64);
-    io::write_all(1, b", ");
-    io::write_all(1, text);
-    io::write_all(1, b": ");
-    io::print_decimal(1, code as u64);
-    io::write_all(1, b"\n");
+pub fn line(rt: &impl Print, kind: Kind, text: &str, told: Result<(), Refusal>) -> io::Result<()> {
+    println!(rt; "kind {}, {text}: {}", kind.number, pool::code(told))
 }
 
-pub fn show(text: &[u8], s: Sample) {
-    let kind = s.head.kind.number;
-    line(kind, text, examine(s, words(kind), 5, 5, 5));
+pub fn show(rt: &impl Print, text: &str, sample: Sample) -> io::Result<()> {
+    line(rt, sample.kind, text, sample.told())
 }

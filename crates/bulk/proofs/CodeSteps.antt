@@ -1,236 +1,128 @@
--- What the steps of a bulk push ask for, on plain values: a test and a push of one entry, what a turn of each loop does, and the whole call.
+-- What the code of a bulk push asks for, on plain values: what a turn of each loop does, and the whole call.
 use mathlib.Core.Path.{◌≡◌, refl, sym, ap, ◌∙◌, subst}
 use mathlib.Core.List.{List, [], ◌∷◌}
 use Prim.Native.Nat.{ℕ, zero, suc, ◌+◌, ◌-◌, ◌≤◌, ◌<◌}
-use native.Mathlib.Omega.{arith}
 use native.Mathlib.Numerals.{add-one}
 use lib.ListN.{length, get_or, drop, drop_of_length-le}
 use lib.Seq.{drop-cons}
+use Rattle.std.specs.Prelude.{Result, Ok, Err, MatchResult}
+use Rattle.pool.specs.declared.lent.Entry.{Entry}
+use Rattle.pool.specs.declared.refusal.Refusal.{Refusal}
 use Rattle.pool.specs.declared.state.Head.{Head}
-use Rattle.pool.specs.declared.state.State.{State}
-use Rattle.pool.specs.World.{World, world_of, size}
+use Rattle.pool.specs.Codes.{refusal_code, told}
+use Rattle.pool.specs.World.{World, size}
 use Rattle.pool.specs.Sound.{Typed, Whole}
 use Rattle.pool.specs.Examine.{examined}
+use Rattle.pool.proofs.Refusals.{refusal_some}
 use Rattle.pool.proofs.Follows.{examined_whole}
 use Rattle.engine.specs.Outcome.{Outcome}
 use Rattle.engine.specs.Core.{push_code, push_core}
-use Rattle.bulk.specs.declared.Entry.{Entry}
-use Rattle.bulk.specs.declared.steps.Gauge.{Gauge}
-use Rattle.bulk.specs.declared.wide.Extended.{Extended}
-use Rattle.bulk.specs.Bulk.{Bulk, bulk, extended}
-use Rattle.bulk.specs.Core.{no_entry, begun_by, begun, Begun, test_by, test_unless, test_one, test_each, told, Sure, push_unless, push_one, push_rest, push_all}
-use Rattle.heap.proofs.CodeChecked.{passed_whole}
-use Rattle.bulk.proofs.Each.{Found, found, tested, tested_by, refused_is, taken_is}
-use Rattle.bulk.proofs.CodeWide.{core_whole, bulk_stopped}
+use Rattle.heap.proofs.Calls.{push_core_lem, push_whole}
+use Rattle.bulk.specs.declared.extending.Stop.{Stop}
+use Rattle.bulk.specs.Answers.{bulk_answered}
+use Rattle.bulk.specs.Bulk.{bulk, extend, bulk_unless, extended}
+use Rattle.bulk.specs.Wide.{no_entry}
+use Rattle.bulk.specs.Core.{Found, found, found_in, found_at, tested, push_all}
+use Rattle.bulk.proofs.Each.{tested_by, refused_is, taken_is}
 
--- ---- one entry is tested
+-- what is told, with its place
+at_place_is : (i : ℕ) (t : Result Unit Refusal) (r : Result Unit Stop) → MatchResult t (λ x. r ≡ Ok x) (λ e. r ≡ Err (record { refusal = e; place = i })) → found_in r ≡ found_at i (told t)
+unfolding found_in found_at told
+at_place_is i (Ok x) r e = ap found_in e
+at_place_is i (Err e) r p = ap found_in p ∙ go (refusal_code e) (refusal_some e)
+  where
+    go : (c : ℕ) → (c ≡ 0 → ⊥) → found c i ≡ found_at i c
+    go zero n = absurd (n refl)
+    go (suc c) n = refl
 
-module _ (g : Gauge) (i a b : ℕ) where
-  pub test_over : (g.code ≡ 0 → ⊥) → g ≡ test_one g i a b
-  unfolding test_one test_unless
-  test_over n = go g.code n
-    where
-      go : (c : ℕ) → (c ≡ 0 → ⊥) → g ≡ test_unless c g i a b
-      go zero z = absurd (z refl)
-      go (suc c) z = refl
+pub at_place_told : (i c : ℕ) (t : Result Unit Refusal) (r : Result Unit Stop) → MatchResult t (λ x. r ≡ Ok x) (λ e. r ≡ Err (record { refusal = e; place = i })) → told t ≡ c → found_in r ≡ found_at i c
+at_place_told i c t r e is = at_place_is i t r e ∙ ap (found_at i) is
 
-  module _ (z : g.code ≡ 0) (code : ℕ) (told : code ≡ push_code g.head g.left a b) where
-    test_goes : test_by code g i ≡ test_one g i a b
-    unfolding test_one test_unless
-    test_goes = ap (λ (c : ℕ). test_by c g i) told ∙ ap (λ (c : ℕ). test_unless c g i a b) (sym z)
+-- the number is 0 exactly where nothing is refused
+pub found_none : {T : Type 0} (x : T) (i c : ℕ) → found_in (Ok x) ≡ found_at i c → c ≡ 0
+unfolding found_in found_at
+found_none x i zero e = refl
+found_none x i (suc c) e = sym (ap (λ (t : Found). t.code) e)
 
-    pub test_refused : (code ≡ 0 → ⊥) → record { head = g.head; left = g.left; code = code; place = i } ≡ test_one g i a b
-    unfolding test_by
-    test_refused n = go code n ∙ test_goes
-      where
-        go : (c : ℕ) → (c ≡ 0 → ⊥) → record { head = g.head; left = g.left; code = c; place = i } ≡ test_by c g i
-        go zero y = absurd (y refl)
-        go (suc c) y = refl
+pub found_some : (T : Type 0) (s : Stop) (i c : ℕ) → found_in {T = T} (Err s) ≡ found_at i c → c ≡ 0 → ⊥
+unfolding found_in found_at
+found_some T s i c e z = refusal_some s.refusal (ap (λ (t : Found). t.code) (e ∙ ap (found_at i) z))
 
-    pub test_passed : code ≡ 0 → record { head = g.head; left = g.left - 1; code = 0; place = g.place } ≡ test_one g i a b
-    unfolding test_by
-    test_passed y = ap (λ (c : ℕ). test_by c g i) (sym y) ∙ test_goes
+-- the entries from place i on
+module _ (es : List Entry) (i : ℕ) where
+  rest_end : length es ≤ i → drop i es ≡ []
+  rest_end l = drop_of_length-le es l
 
--- ---- one entry is pushed
+  rest_turn : i < length es → drop i es ≡ get_or es i no_entry ∷ drop (i + 1) es
+  rest_turn l = drop-cons es i no_entry l ∙ ap (λ (k : ℕ). get_or es i no_entry ∷ drop k es) (sym (add-one i))
 
-module _ (r : Bulk) (a b v : ℕ) where
-  pub push_over : (r.code ≡ 0 → ⊥) → r ≡ push_one r a b v
-  unfolding push_one push_unless
-  push_over n = go r.code n
-    where
-      go : (c : ℕ) → (c ≡ 0 → ⊥) → r ≡ push_unless c r a b v
-      go zero z = absurd (z refl)
-      go (suc c) z = refl
+  -- ---- a turn of the test, of an entry e
 
-  pub push_goes : r.code ≡ 0 → (o : Outcome) → o ≡ push_core r.world a b v → bulk 0 o.world r.place ≡ push_one r a b v
-  unfolding push_one push_unless
-  push_goes z o e = ap (λ (x : Outcome). bulk 0 x.world r.place) e ∙ ap (λ (c : ℕ). push_unless c r a b v) (sym z)
+  module _ (h : Head) (f : ℕ) where
+    module _ {t : Found} (same : t ≡ tested h f i (drop i es)) where
+      pub test_end : {T : Type 0} (x : T) → length es ≤ i → found_in (Ok x) ≡ t
+      unfolding found_in tested
+      test_end x l = sym (same ∙ ap (tested h f i) (rest_end l))
 
-  -- a sound pool stays sound
-  pub push_sure : Sure r → Sure (push_one r a b v)
-  unfolding Sure push_one push_unless
-  push_sure s = go r.code refl
-    where
-      go : (c : ℕ) → r.code ≡ c → (push_unless c r a b v).code ≡ 0 → Whole (push_unless c r a b v).world
-      go zero e z = core_whole (s e) a b v (push_core r.world a b v) refl
-      go (suc c) e z = s z
+      module _ {e : Entry} (is : e ≡ get_or es i no_entry) (l : i < length es) where
+        test_by : (c : ℕ) → push_code h f e.key.first e.key.second ≡ c → t ≡ (elim c as (λ x. Found) [ zero ↦ tested h (f - 1) (suc i) (drop (i + 1) es) | suc d ↦ found (suc d) i ])
+        test_by c p = same ∙ ap (tested h f i) (rest_turn l ∙ ap (λ (x : Entry). x ∷ drop (i + 1) es) (sym is)) ∙ tested_by e (drop (i + 1) es) h f i c p
 
-pub sure_whole : (r : Bulk) → Sure r → r.code ≡ 0 → Whole r.world
-unfolding Sure
-sure_whole r s z = s z
+        -- the entry passes
+        pub test_passed : push_code h f e.key.first e.key.second ≡ 0 → t ≡ tested h (f - 1) (i + 1) (drop (i + 1) es)
+        test_passed p = test_by 0 p ∙ ap (λ (k : ℕ). tested h (f - 1) k (drop (i + 1) es)) (sym (add-one i))
 
--- ---- the turns
+        -- or it is refused
+        pub test_refused : (T : Type 0) (s : Stop) → found_in {T = T} (Err s) ≡ found_at i (push_code h f e.key.first e.key.second) → found_in {T = T} (Err s) ≡ t
+        unfolding found_at
+        test_refused T s told = told ∙ sym (test_by (push_code h f e.key.first e.key.second) refl ∙ go (push_code h f e.key.first e.key.second) (found_some T s i (push_code h f e.key.first e.key.second) told))
+          where
+            go : (c : ℕ) → (c ≡ 0 → ⊥) → (elim c as (λ x. Found) [ zero ↦ tested h (f - 1) (suc i) (drop (i + 1) es) | suc d ↦ found (suc d) i ]) ≡ found_at i c
+            go zero z = absurd (z refl)
+            go (suc c) z = refl
 
-pub tests_end : (i : ℕ) (g : Gauge) (es : List Entry) → length es ≤ i → test_each i g (drop i es) ≡ g
-unfolding test_each
-tests_end i g es l = ap (test_each i g) (drop_of_length-le es l)
+  -- ---- a turn of the pushes
 
-pub tests_turn : (i : ℕ) (g : Gauge) (es : List Entry) → i < length es → test_each i g (drop i es) ≡ test_each (i + 1) (test_one g i (get_or es i no_entry).key0 (get_or es i no_entry).key1) (drop (i + 1) es)
-unfolding test_each
-tests_turn i g es l = ap (test_each i g) (drop-cons es i no_entry l ∙ ap (λ (k : ℕ). get_or es i no_entry ∷ drop k es) (sym (add-one i)))
+  module _ (w : World) {w' : World} (same : w' ≡ push_all w (drop i es)) where
+    pub push_end : length es ≤ i → w ≡ w'
+    unfolding push_all
+    push_end l = sym (same ∙ ap (push_all w) (rest_end l))
 
-pub rest_end : (i : ℕ) (r : Bulk) (es : List Entry) → length es ≤ i → push_rest r (drop i es) ≡ r
-unfolding push_rest
-rest_end i r es l = ap (push_rest r) (drop_of_length-le es l)
+    -- with what the engine gave
+    pub push_turn : {e : Entry} → e ≡ get_or es i no_entry → i < length es → (o : Outcome) → o ≡ push_core w e.key.first e.key.second e.value → w' ≡ push_all o.world (drop (i + 1) es)
+    unfolding push_all
+    push_turn {e} is l o p = same ∙ ap (push_all w) (rest_turn l ∙ ap (λ (x : Entry). x ∷ drop (i + 1) es) (sym is)) ∙ ap (λ (x : Outcome). push_all x.world (drop (i + 1) es)) (sym p)
 
-pub rest_turn : (i : ℕ) (r : Bulk) (es : List Entry) → i < length es → push_rest r (drop i es) ≡ push_rest (push_one r (get_or es i no_entry).key0 (get_or es i no_entry).key1 (get_or es i no_entry).value) (drop (i + 1) es)
-unfolding push_rest
-rest_turn i r es l = ap (push_rest r) (drop-cons es i no_entry l ∙ ap (λ (k : ℕ). get_or es i no_entry ∷ drop k es) (sym (add-one i)))
-
--- ---- the examination
-
-module _ (w : World) (code : ℕ) (told : code ≡ examined w) where
-  pub begun_stopped : (code ≡ 0 → ⊥) → Begun w w (record { head = w.head; left = 0; code = code; place = 0 })
-  unfolding begun begun_by
-  begun_stopped n = record { gauge = go code n ∙ ap (λ (c : ℕ). begun_by c w) told; whole = λ z. absurd (n z); same = refl }
-    where
-      go : (c : ℕ) → (c ≡ 0 → ⊥) → record { head = w.head; left = 0; code = c; place = 0 } ≡ begun_by c w
-      go zero z = absurd (z refl)
-      go (suc c) z = refl
-
-  pub begun_passed : Typed w.links → code ≡ 0 → Begun w w (record { head = w.head; left = size w - w.head.len; code = 0; place = 0 })
-  unfolding begun begun_by
-  begun_passed t z = record { gauge = ap (λ (c : ℕ). begun_by c w) (sym z ∙ told); whole = λ y. passed_whole w code told t z; same = refl }
-
-pub begun_same : {w w' : World} {g : Gauge} → Begun w w' g → Begun w w g
-begun_same b = record { gauge = b.gauge; whole = b.whole; same = refl }
+-- a push of the engine leaves a sound world
+pub push_stays : {w : World} → Whole w → (a b v : ℕ) (o : Outcome) → o ≡ push_core w a b v → Whole o.world
+push_stays h a b v o e = subst (λ (x : Outcome). Whole x.world) (sym (e ∙ push_core_lem h a b v)) (push_whole h a b v)
 
 -- ---- the whole call
 
--- after a refusal nothing is done
-tests_over : (es : List Entry) (i : ℕ) (g : Gauge) → (g.code ≡ 0 → ⊥) → test_each i g es ≡ g
-unfolding test_each
-tests_over [] i g n = refl
-tests_over (e ∷ es) i g n = ap (λ (x : Gauge). test_each (i + 1) x es) (sym (test_over g i e.key0 e.key1 n)) ∙ tests_over es (i + 1) g n
+-- the pool passes the examination: it is sound
+pub pool_sound : (w : World) (t : Result Unit Refusal) (x : Unit) → MatchResult t (λ y. ◌≡◌ {A = Result Unit Stop} (Ok x) (Ok y)) (λ e. ◌≡◌ {A = Result Unit Stop} (Ok x) (Err (record { refusal = e; place = 0 }))) → told t ≡ examined w → Typed w.links → Whole w
+pool_sound w t x e is y = (examined_whole w y).0 (found_none x 0 (examined w) (at_place_told 0 (examined w) t (Ok x) e is))
 
-rest_over : (es : List Entry) (r : Bulk) → (r.code ≡ 0 → ⊥) → push_rest r es ≡ r
-unfolding push_rest
-rest_over [] r n = refl
-rest_over (e ∷ es) r n = ap (λ (x : Bulk). push_rest x es) (sym (push_over r e.key0 e.key1 e.value n)) ∙ rest_over es r n
+module _ (w : World) (es : List Entry) where
+  -- the pool is refused: the state and the pool that were handed in, and place 0
+  pub pool_refused : (T : Type 0) (s : Stop) → found_in {T = T} (Err s) ≡ found_at 0 (examined w) → bulk_answered {T = T} (Err s) w ≡ extended w es
+  unfolding found_in found_at bulk_answered extended bulk_unless
+  pool_refused T s = go (examined w)
+    where
+      go : (c : ℕ) → found_in {T = T} (Err s) ≡ found_at 0 c → bulk (refusal_code s.refusal) w s.place ≡ bulk_unless c w (extend w es)
+      go zero e = absurd (found_some T s 0 0 e refl)
+      go (suc c) e = ap (λ (t : Found). bulk t.code w t.place) e
 
--- before one, the test and the pushes are those of a whole list
-rest_all : (es : List Entry) (w : World) (p : ℕ) → push_rest (bulk 0 w p) es ≡ bulk 0 (push_all w es) p
-unfolding push_rest push_one push_unless push_all
-rest_all [] w p = refl
-rest_all (e ∷ es) w p = rest_all es (push_core w e.key0 e.key1 e.value).world p
+  module _ (h : Whole w) {f : ℕ} (free : f ≡ size w - w.head.len) where
+    counted_as : {t : Found} → t ≡ tested w.head f 0 es → t ≡ tested w.head (size w - w.head.len) 0 es
+    counted_as told = told ∙ ap (λ (n : ℕ). tested w.head n 0 es) free
 
-tests_found : (es : List Entry) (i : ℕ) (g : Gauge) → g.code ≡ 0 → g.place ≡ 0 → found (test_each i g es).code (test_each i g es).place ≡ tested g.head g.left i es
-unfolding test_each tested
-tests_found [] i g z y = λ j. found (z j) (y j)
-tests_found (e ∷ es) i g z y = go (push_code g.head g.left e.key0 e.key1) refl
-    (tests_found es (i + 1) (record { head = g.head; left = g.left - 1; code = 0; place = g.place }) refl y)
-  where
-    go : (c : ℕ) → push_code g.head g.left e.key0 e.key1 ≡ c
-        → found (test_each (i + 1) (record { head = g.head; left = g.left - 1; code = 0; place = g.place }) es).code (test_each (i + 1) (record { head = g.head; left = g.left - 1; code = 0; place = g.place }) es).place ≡ tested g.head (g.left - 1) (i + 1) es
-        → found (test_each i g (e ∷ es)).code (test_each i g (e ∷ es)).place ≡ tested g.head g.left i (e ∷ es)
-    go zero q ih =
-        ap (λ (x : Gauge). found (test_each (i + 1) x es).code (test_each (i + 1) x es).place) (sym (test_passed g i e.key0 e.key1 z 0 (sym q) refl))
-        ∙ ih ∙ ap (λ (k : ℕ). tested g.head (g.left - 1) k es) (add-one i) ∙ sym (tested_by e es g.head g.left i 0 q)
-    go (suc c) q ih =
-        ap (λ (x : Gauge). found (test_each (i + 1) x es).code (test_each (i + 1) x es).place) (sym (test_refused g i e.key0 e.key1 z (suc c) (sym q) (λ k. absurd (omega arith))))
-        ∙ ap (λ (x : Gauge). found x.code x.place) (tests_over es (i + 1) (record { head = g.head; left = g.left; code = suc c; place = i }) (λ k. absurd (omega arith)))
-        ∙ sym (tested_by e es g.head g.left i (suc c) q)
+    -- an entry is refused
+    pub entry_refused : (T : Type 0) (s : Stop) → found_in {T = T} (Err s) ≡ tested w.head f 0 es → bulk_answered {T = T} (Err s) w ≡ extended w es
+    unfolding found_in bulk_answered
+    entry_refused T s told = refused_is h es (found (refusal_code s.refusal) s.place) (counted_as told) (refusal_some s.refusal)
 
-found_none : (es : List Entry) (h : Head) (f i : ℕ) → (tested h f i es).code ≡ 0 → (tested h f i es).place ≡ 0
-unfolding tested
-found_none [] h f i = λ z. refl
-found_none (e ∷ es) h f i = go (push_code h f e.key0 e.key1) (found_none es h (f - 1) (suc i))
-  where
-    go : (c : ℕ) → ((tested h (f - 1) (suc i) es).code ≡ 0 → (tested h (f - 1) (suc i) es).place ≡ 0)
-        → (elim c as (λ x. Found) [ zero ↦ tested h (f - 1) (suc i) es | suc c ↦ found (suc c) i ]).code ≡ 0 → (elim c as (λ x. Found) [ zero ↦ tested h (f - 1) (suc i) es | suc c ↦ found (suc c) i ]).place ≡ 0
-    go zero ih = ih
-    go (suc c) ih = λ z. absurd (omega arith)
-
-module _ (w : World) (es : List Entry) (g : Gauge) (b : Begun w w g) where
-  started : (c : ℕ) → examined w ≡ c → g ≡ begun_by c w
-  unfolding begun
-  started c e = b.gauge ∙ ap (λ (x : ℕ). begun_by x w) e
-
-  -- the test of a sound pool, and of one that is not
-  module _ (t : Gauge) (told : t ≡ test_each 0 g es) where
-    sound_told : examined w ≡ 0 → found t.code t.place ≡ tested w.head (size w - w.head.len) 0 es
-    unfolding begun_by
-    sound_told e =
-        let s : g ≡ begun_by zero w = started zero e in
-        ap (λ (x : Gauge). found x.code x.place) told ∙ tests_found es 0 g (ap (λ (x : Gauge). x.code) s) (ap (λ (x : Gauge). x.place) s) ∙ ap (λ (x : Gauge). tested x.head x.left 0 es) s
-
-    stopped_told : (c : ℕ) → examined w ≡ suc c → t ≡ begun_by (suc c) w
-    unfolding begun_by
-    stopped_told c e =
-        let s : g ≡ begun_by (suc c) w = started (suc c) e in
-        let z : g.code ≡ suc c = ap (λ (x : Gauge). x.code) s in
-        told ∙ tests_over es 0 g (λ k. absurd (omega arith)) ∙ s
-
-    -- the test passes only on a sound pool
-    pub tests_whole : t.code ≡ 0 → Whole w
-    unfolding begun_by
-    tests_whole z = go (examined w) refl
-      where
-        go : (c : ℕ) → examined w ≡ c → Whole w
-        go zero e = b.whole (ap (λ (x : Gauge). x.code) (started zero e))
-        go (suc c) e = let n : t.code ≡ suc c = ap (λ (x : Gauge). x.code) (stopped_told c e) in absurd (omega arith)
-
-    -- nothing is changed where it is refused
-    pub extend_refused : (t.code ≡ 0 → ⊥) → bulk t.code w t.place ≡ extended w es
-    unfolding begun_by
-    extend_refused n = go (examined w) refl
-      where
-        go : (c : ℕ) → examined w ≡ c → bulk t.code w t.place ≡ extended w es
-        go zero e = refused_is (b.whole (ap (λ (x : Gauge). x.code) (started zero e))) es (found t.code t.place) (sound_told e) n
-        go (suc c) e = ap (λ (x : Gauge). bulk x.code w x.place) (stopped_told c e) ∙ bulk_stopped w (suc c) (sym e) es (λ k. absurd (omega arith))
-
-    -- and where it is not all entries are pushed, from place 0
-    module _ (z : t.code ≡ 0) where
-      passed : examined w ≡ 0
-      passed = (examined_whole w (tests_whole z).typed).1 (tests_whole z)
-
-      pub extend_taken : {w' : World} → w' ≡ push_all w es → bulk 0 w' 0 ≡ extended w es
-      extend_taken e = taken_is (tests_whole z) es (found t.code t.place) (sound_told passed) z e
-
-      place_zero : t.place ≡ 0
-      place_zero = ap (λ (x : Found). x.place) (sound_told passed) ∙ found_none es w.head (size w - w.head.len) 0 (sym (ap (λ (x : Found). x.code) (sound_told passed)) ∙ z)
-
-    -- step by step
-    pub tests_sure : Sure (bulk t.code w t.place)
-    unfolding Sure
-    tests_sure = tests_whole
-
-    pub extend_is : push_rest (bulk t.code w t.place) es ≡ extended w es
-    extend_is = go t.code refl
-      where
-        go : (c : ℕ) → t.code ≡ c → push_rest (bulk t.code w t.place) es ≡ extended w es
-        go zero z = (λ j. push_rest (bulk (z j) w (place_zero z j)) es) ∙ rest_all es w 0 ∙ extend_taken z refl
-        go (suc c) z = let n : t.code ≡ 0 → ⊥ = λ k. absurd (omega arith) in rest_over es (bulk t.code w t.place) n ∙ extend_refused n
-
--- ---- the wide form
-
-module _ {w : World} {s : State} {ks vs ns bs : List ℕ} {g : Gauge} (b : Begun w (world_of s ks vs ns bs) g) (es : List Entry) (t : Gauge) (is : t ≡ test_each 0 g es) where
-  pub wide_whole : t.code ≡ 0 → Whole (world_of s ks vs ns bs)
-  wide_whole z = subst Whole (sym b.same) (tests_whole w es g (begun_same b) t is z)
-
-  pub wide_refused : (t.code ≡ 0 → ⊥) → {r : Extended} → r ≡ told t s → bulk r.code (world_of r.state ks vs ns bs) r.place ≡ extended w es
-  wide_refused n e = ap (λ (r : Extended). bulk r.code (world_of r.state ks vs ns bs) r.place) e
-      ∙ ap (λ (x : World). bulk t.code x t.place) b.same ∙ extend_refused w es g (begun_same b) t is n
-
-  pub wide_taken : t.code ≡ 0 → bulk 0 (push_all (world_of s ks vs ns bs) es) 0 ≡ extended w es
-  wide_taken z = extend_taken w es g (begun_same b) t is z (ap (λ (x : World). push_all x es) b.same)
+    -- none is, and all are pushed
+    pub all_pushed : {T : Type 0} (x : T) → found_in (Ok x) ≡ tested w.head f 0 es → {w' : World} → w' ≡ push_all w es → bulk_answered (Ok x) w' ≡ extended w es
+    unfolding found_in bulk_answered
+    all_pushed x told e = taken_is h es (found 0 0) (counted_as told) refl e

@@ -18,24 +18,9 @@ use Rattle.engine.specs.Core.{push_code}
 use Rattle.engine.proofs.CodePush.{code_key, code_past}
 use Rattle.heap.specs.Calls.{push, push_into}
 use Rattle.heap.proofs.Calls.{push_key_lem, push_6, push_free, push_follows, push_core_lem, push_whole}
-use Rattle.bulk.specs.declared.Entry.{Entry}
+use Rattle.pool.specs.declared.lent.Entry.{Entry}
 use Rattle.bulk.specs.Bulk.{Bulk, bulk, push_each, kept, extend, bulk_unless, extended}
-use Rattle.bulk.specs.Core.{push_all}
-
--- ---- the test
-
--- the code and the place of the first entry that is refused, or 0 and 0
-pub record Found : Type 0 where
-  pub code : ℕ
-  pub place : ℕ
-
-abbrev pub found : ℕ → ℕ → Found
-found code place = record { code = code; place = place }
-
--- entries from place i on, where so many slots are free: a push changes neither kind nor top, and takes one slot
-unfoldable pub tested : Head → ℕ → ℕ → List Entry → Found
-tested h free i [] = found 0 0
-tested h free i (e ∷ es) = elim (push_code h free e.key0 e.key1) [ zero ↦ tested h (free - 1) (suc i) es | suc c ↦ found (suc c) i ]
+use Rattle.bulk.specs.Core.{Found, found, tested, push_all}
 
 -- ---- one entry
 
@@ -106,32 +91,32 @@ agrees_as p q r a = record {
 }
 
 module _ (e : Entry) (es : List Entry) where
-  each_by : (i : ℕ) (w : World) (c : ℕ) → (push w e.key0 e.key1 e.value).code ≡ c
-      → push_each i w (e ∷ es) ≡ (elim c as (λ x. Bulk) [ zero ↦ push_each (suc i) (push w e.key0 e.key1 e.value).world es | suc c ↦ bulk (suc c) w i ])
+  each_by : (i : ℕ) (w : World) (c : ℕ) → (push w e.key.first e.key.second e.value).code ≡ c
+      → push_each i w (e ∷ es) ≡ (elim c as (λ x. Bulk) [ zero ↦ push_each (suc i) (push w e.key.first e.key.second e.value).world es | suc c ↦ bulk (suc c) w i ])
   unfolding push_each
-  each_by i w c p = ap (λ (x : ℕ). elim x as (λ y. Bulk) [ zero ↦ push_each (suc i) (push w e.key0 e.key1 e.value).world es | suc c ↦ bulk (suc c) w i ]) p
+  each_by i w c p = ap (λ (x : ℕ). elim x as (λ y. Bulk) [ zero ↦ push_each (suc i) (push w e.key.first e.key.second e.value).world es | suc c ↦ bulk (suc c) w i ]) p
 
-  pub tested_by : (h : Head) (f i c : ℕ) → push_code h f e.key0 e.key1 ≡ c → tested h f i (e ∷ es) ≡ (elim c as (λ x. Found) [ zero ↦ tested h (f - 1) (suc i) es | suc c ↦ found (suc c) i ])
+  pub tested_by : (h : Head) (f i c : ℕ) → push_code h f e.key.first e.key.second ≡ c → tested h f i (e ∷ es) ≡ (elim c as (λ x. Found) [ zero ↦ tested h (f - 1) (suc i) es | suc c ↦ found (suc c) i ])
   unfolding tested
   tested_by h f i c p = ap (λ (x : ℕ). elim x as (λ y. Found) [ zero ↦ tested h (f - 1) (suc i) es | suc c ↦ found (suc c) i ]) p
 
-  pub all_by : {w : World} → Whole w → push_all w (e ∷ es) ≡ push_all (push w e.key0 e.key1 e.value).world es
+  pub all_by : {w : World} → Whole w → push_all w (e ∷ es) ≡ push_all (push w e.key.first e.key.second e.value).world es
   unfolding push_all
-  all_by h = ap (λ (o : Outcome). push_all o.world es) (push_core_lem h e.key0 e.key1 e.value)
+  all_by h = ap (λ (o : Outcome). push_all o.world es) (push_core_lem h e.key.first e.key.second e.value)
 
 -- the head of the first world will do for the test
 agrees : (es : List Entry) (i f : ℕ) {w : World} (g : Head) → Whole w → f ≡ length (chain w free_chain) → ((n a b : ℕ) → push_code w.head n a b ≡ push_code g n a b) → Agrees (push_each i w es) (tested g f i es) (push_all w es)
 unfolding push_each tested push_all push_code
 agrees [] i f g h l s = record { code = refl; place = refl; all = λ z. refl }
-agrees (e ∷ es) i f {w} g h l s = go (step h f e.key0 e.key1 e.value l)
-    (λ r t. agrees es (suc i) (f - 1) g (push_whole h e.key0 e.key1 e.value) r (λ n a b. ap (λ (x : Head). push_code x n a b) t ∙ s n a b))
+agrees (e ∷ es) i f {w} g h l s = go (step h f e.key.first e.key.second e.value l)
+    (λ r t. agrees es (suc i) (f - 1) g (push_whole h e.key.first e.key.second e.value) r (λ n a b. ap (λ (x : Head). push_code x n a b) t ∙ s n a b))
   where
-    go : Takes w f e.key0 e.key1 e.value ⊎ Refuses w f e.key0 e.key1 e.value
-        → (f - 1 ≡ length (chain (push w e.key0 e.key1 e.value).world free_chain) → (push w e.key0 e.key1 e.value).world.head ≡ resized w.head (w.head.len + 1)
-        → Agrees (push_each (suc i) (push w e.key0 e.key1 e.value).world es) (tested g (f - 1) (suc i) es) (push_all (push w e.key0 e.key1 e.value).world es))
+    go : Takes w f e.key.first e.key.second e.value ⊎ Refuses w f e.key.first e.key.second e.value
+        → (f - 1 ≡ length (chain (push w e.key.first e.key.second e.value).world free_chain) → (push w e.key.first e.key.second e.value).world.head ≡ resized w.head (w.head.len + 1)
+        → Agrees (push_each (suc i) (push w e.key.first e.key.second e.value).world es) (tested g (f - 1) (suc i) es) (push_all (push w e.key.first e.key.second e.value).world es))
         → Agrees (push_each i w (e ∷ es)) (tested g f i (e ∷ es)) (push_all w (e ∷ es))
-    go (inl t) ih = agrees_as (each_by e es i w 0 t.code) (tested_by e es g f i 0 (sym (s f e.key0 e.key1) ∙ t.told)) (all_by e es h) (ih t.rest t.head)
-    go (inr t) ih = agrees_as (each_by e es i w (suc t.less) t.code) (tested_by e es g f i (suc t.less) (sym (s f e.key0 e.key1) ∙ t.told)) refl (record { code = refl; place = refl; all = λ z. absurd (omega arith) })
+    go (inl t) ih = agrees_as (each_by e es i w 0 t.code) (tested_by e es g f i 0 (sym (s f e.key.first e.key.second) ∙ t.told)) (all_by e es h) (ih t.rest t.head)
+    go (inr t) ih = agrees_as (each_by e es i w (suc t.less) t.code) (tested_by e es g f i (suc t.less) (sym (s f e.key.first e.key.second) ∙ t.told)) refl (record { code = refl; place = refl; all = λ z. absurd (omega arith) })
 
 -- ---- the whole call
 

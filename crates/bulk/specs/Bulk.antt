@@ -4,7 +4,7 @@ use Rattle.std.specs.Prelude.{List, [], ◌∷◌, ℕ, zero, suc}
 use Rattle.pool.specs.World.{World}
 use Rattle.pool.specs.Examine.{examined}
 use Rattle.heap.specs.Calls.{push}
-use Rattle.bulk.specs.declared.Entry.{Entry}
+use Rattle.pool.specs.declared.lent.Entry.{Entry}
 
 -- the code, the state and the pool afterwards, and the place of the entry that was refused
 pub record Bulk : Type 0 where
@@ -18,8 +18,8 @@ bulk code w place = record { code = code; world = w; place = place }
 -- single pushes in order, from place i on, until one is refused
 unfoldable pub push_each : ℕ → World → List Entry → Bulk
 push_each i w [] = bulk 0 w 0
-push_each i w (e ∷ es) = elim (push w e.key0 e.key1 e.value).code [
-  | zero ↦ push_each (suc i) (push w e.key0 e.key1 e.value).world es
+push_each i w (e ∷ es) = elim (push w e.key.first e.key.second e.value).code [
+  | zero ↦ push_each (suc i) (push w e.key.first e.key.second e.value).world es
   | suc c ↦ bulk (suc c) w i
 ]
 

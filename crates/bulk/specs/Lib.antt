@@ -1,3 +1,4 @@
 pub mod Bulk
+pub mod Answers
 pub mod Wide
 pub mod Core

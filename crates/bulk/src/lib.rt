@@ -5,17 +5,8 @@
 // `extended` of specs/Bulk.antt.
 #![tactic(auto)]
 
-mod ordered;
-mod steps;
-mod wide;
+mod entries;
+mod extending;
 
-pub use ordered::extend;
-pub use wide::{Extended, extend_wide};
-
-// An entry: its key words and its value. In kinds of one word the second is 0.
-#[derive(Clone, Copy)]
-pub struct Entry {
-    pub key0: u64,
-    pub key1: u64,
-    pub value: u64,
-}
+pub use extending::{Stop, extend, extend_wide};
+pub use pool::Entry;

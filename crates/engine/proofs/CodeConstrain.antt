@@ -16,16 +16,16 @@ use Rattle.pool.specs.Core.{greatest_of, Drained, drained, drain_chain, busy_fro
 use Rattle.pool.proofs.Steps.{busy_to, busy_some}
 use Rattle.engine.specs.Core.{to_drain}
 
--- with the link g, the key words and the links that the calls gave
-pub drain_gives : (kind : Kind) (k : Links) (keys : List ℕ) (c g a b : ℕ) (t : Links) (moves : ℕ) → g ≡ greatest_of kind keys k.next (get_or k.first c 0)
-    → a ≡ key_word0 kind keys (g - 1) → b ≡ key_word1 kind keys (g - 1) → drained t moves ≡ drain_chain kind keys (ordered kind a b) c k
-    → (h : Head) → h.kind ≡ kind → shifted (topped_at h a b) t moves ≡ drain_unless false h k keys c
+-- with the link, the key words and the links that the calls gave, and the head g as they left it
+pub drain_gives : (h g : Head) (kind : Kind) (k : Links) (keys : List ℕ) (c link a b : ℕ) (t : Links) (moves : ℕ) → kind ≡ h.kind → g ≡ h → link ≡ greatest_of kind keys k.next (get_or k.first c 0)
+    → a ≡ key_word0 kind keys (link - 1) → b ≡ key_word1 kind keys (link - 1) → drained t moves ≡ drain_chain kind keys (ordered kind a b) c k
+    → shifted (topped_at g a b) t moves ≡ drain_unless false h k keys c
 unfolding drain_unless
-drain_gives kind k keys c g a b t moves e p q d h same = ap (λ (x : Drained). shifted (topped_at h a b) x.to x.moves) d ∙ rw (same, p, q, e)
+drain_gives h g kind k keys c link a b t moves same kept e p q d = ap (λ (x : Drained). shifted (topped_at g a b) x.to x.moves) d ∙ rw (kept, sym same, p, q, e)
 
 -- ---- the chain to drain
 
--- with a top, where b is the first busy bucket
+-- with a top, where b is the first busy bucket, or bucket 0, or none
 pub bucket_none : (first : List ℕ) {b : ℕ} {t : Bool} → t ≡ true → b ≡ busy_from waiting_chain first 0 → b ≡ waiting_chain → 0 ≡ to_drain t first
 unfolding to_drain
 bucket_none first {b} e p q = rw (e, sym p, eq-eqb b waiting_chain q)
@@ -33,6 +33,10 @@ bucket_none first {b} e p q = rw (e, sym p, eq-eqb b waiting_chain q)
 pub bucket_some : (first : List ℕ) {b : ℕ} {t : Bool} → t ≡ true → b ≡ busy_from waiting_chain first 0 → (b ≡ waiting_chain → ⊥) → b ≡ to_drain t first
 unfolding to_drain
 bucket_some first {b} e p q = rw (e, sym p, ne_eqb b waiting_chain q)
+
+-- there are no more buckets
+pub bucket_low : (first : List ℕ) {b : ℕ} → b ≡ busy_from waiting_chain first 0 → b ≤ waiting_chain
+bucket_low first e = let l = busy_to waiting_chain first 0 in omega (arith, l, e)
 
 -- and with none
 pub waiting_none : (first : List ℕ) {t : Bool} → t ≡ false → get_or first waiting_chain 0 ≡ 0 → 0 ≡ to_drain t first

@@ -15,9 +15,6 @@ use Rattle.engine.specs.Room.{Roomy}
 
 -- a list that is as long has as much room: for so many entries, and so for one of them
 module _ {kind : Kind} {len : ℕ} {ks vs : List ℕ} (r : Roomy kind len ks vs) where
-  pub roomy_as : {ls us : List ℕ} → length ls ≡ length ks → length us ≡ length vs → Roomy kind len ls us
-  roomy_as e f = record { wide = λ k. omega (arith, r.wide k); narrow = λ q. omega (arith, r.narrow q); values = omega arith }
-
   pub roomy_holds : {ls : List ℕ} (i : ℕ) → length ls ≡ length ks → i < len → Holds kind ls i
   roomy_holds i e h = record { wide = λ k. omega (arith, r.wide k); narrow = λ q. omega (arith, r.narrow q) }
 

@@ -5,57 +5,60 @@
 mod floats;
 mod one_kind;
 mod other_kinds;
+mod slots;
 mod small;
 mod trial;
 
-fn outcome(ok: bool) {
-    if ok {
-        io::write_all(1, b": passed\n");
-    } else {
-        io::write_all(1, b": failed\n");
+use std::io;
+
+fn outcome(passed: bool) -> &'static str {
+    if passed { "passed" } else { "failed" }
+}
+
+fn examples(rt: &impl Print) -> io::Result<()> {
+    let examples = [
+        one_kind::nine_keys().is_some(),
+        one_kind::ties().is_some(),
+        one_kind::at_the_top().is_some(),
+        small::one_slot().is_some(),
+        other_kinds::signed().is_some(),
+        other_kinds::reversed().is_some(),
+        other_kinds::pairs(),
+        one_kind::cleared().is_some(),
+        one_kind::constrained().is_some(),
+        small::no_slots().is_some(),
+        one_kind::listed().is_some(),
+        small::two_slots().is_some(),
+    ];
+    for (number, passed) in (1..13).zip(examples) {
+        println!(rt; "example {number}: {}", outcome(passed))?;
     }
+    Ok(())
 }
 
-fn line(number: u64, ok: bool) {
-    io::write_all(1, b"example ");
-    io::print_decimal(1, number);
-    outcome(ok);
+fn float_keys(rt: &impl Print) -> io::Result<()> {
+    let tests = [
+        ("honest zeros", floats::honest_zeros()),
+        ("ordered as numbers", floats::in_order().is_some()),
+        ("infinities taken", floats::infinities().is_some()),
+        ("a NaN refused", floats::no_nan()),
+        (
+            "a NaN refused where no slot is free",
+            floats::no_nan_in_a_full_heap().is_some(),
+        ),
+        ("a second word refused", floats::no_second_word()),
+        (
+            "the pattern of a NaN taken in other kinds",
+            floats::pattern_in_other_kinds(),
+        ),
+    ];
+    for (text, passed) in tests {
+        println!(rt; "float keys, {text}: {}", outcome(passed))?;
+    }
+    Ok(())
 }
 
-fn float_line(text: &[u8], ok: bool) {
-    io::write_all(1, b"float keys, ");
-    io::write_all(1, text);
-    outcome(ok);
-}
-
-fn float_lines() {
-    float_line(b"honest zeros", floats::honest_zeros());
-    float_line(b"ordered as numbers", floats::in_order());
-    float_line(b"infinities taken", floats::infinities());
-    float_line(b"a NaN refused", floats::no_nan());
-    float_line(
-        b"a NaN refused where no slot is free",
-        floats::no_nan_in_a_full_heap(),
-    );
-    float_line(b"a second word refused", floats::no_second_word());
-    float_line(
-        b"the pattern of a NaN taken in other kinds",
-        floats::pattern_in_other_kinds(),
-    );
-}
-
-fn main() {
-    line(1, one_kind::nine_keys());
-    line(2, one_kind::ties());
-    line(3, one_kind::at_the_top());
-    line(4, small::one_slot());
-    line(5, other_kinds::signed());
-    line(6, other_kinds::reversed());
-    line(7, other_kinds::pairs());
-    line(8, one_kind::cleared());
-    line(9, one_kind::constrained());
-    line(10, small::no_slots());
-    line(11, one_kind::listed());
-    line(12, small::two_slots());
-    float_lines();
+fn main(rt: HostRuntime) -> io::Result<()> {
+    examples(&rt)?;
+    float_keys(&rt)
 }

@@ -1,20 +1,15 @@
 // A door to `bulk::extend`: three entries by value, which its caller needs no lent list for.
 ghost use Rattle.std.specs.Prelude.{◌≡◌};
-ghost use Rattle.pool.specs.World.{world_of};
-ghost use Rattle.bulk.specs.Bulk.{bulk, extended};
+ghost use Rattle.pool.specs.Lent.{SamePool, world_in};
+ghost use Rattle.bulk.specs.Answers.{bulk_answered};
+ghost use Rattle.bulk.specs.Bulk.{extended};
 
-use bulk::{Entry, Extended};
-use pool::State;
+use bulk::{Entry, Stop};
+use pool::{Answer, Pool, State};
 
-pub fn extend_three(
-    state: State,
-    keys: &mut [u64],
-    values: &mut [u64],
-    next: &mut [u32],
-    back: &mut [u32],
-    entries: [Entry; 3],
-) -> Extended
-    ensures { bulk result.code (world_of result.state keys.new values.new next.new back.new) result.place ≡ extended (world_of state keys.old values.old next.old back.old) entries }
+pub fn extend_three(state: State, pool: &mut Pool, entries: [Entry; 3]) -> Answer<(), Stop>
+    ensures same { SamePool pool.new pool.old }
+    ensures gives { bulk_answered result.told (world_in result.state pool.new) ≡ extended (world_in state pool.old) entries }
 {
-    bulk::extend(state, keys, values, next, back, &entries)
+    bulk::extend(state, pool, &entries)
 }

@@ -1,20 +1,16 @@
 // A batch on a fresh heap of any kind, over a pool of any number of slots that is lent here.
-ghost use Rattle.std.specs.Prelude.{◌≡◌, cond, ◌&&◌, ◌+◌, ◌*◌, ◌≤◌, eqb};
+ghost use Rattle.std.specs.Prelude.{◌≡◌, cond, ◌&&◌, ◌+◌, ◌*◌, ◌≤◌, eqb, get_or};
 
 use crate::{serve, tell};
 use keys::Kind;
+use pool::{LIMIT, Pool, Refusal};
 
-// The number in four bytes, if it is below 65,536; else 65,535, which is more than any kind or limit.
-pub fn small(a: u8, b: u8, c: u8, d: u8) -> u32
-    ensures { result ≡ cond (eqb c 0 && eqb d 0) (a + 256 * b) 65535 }
+// The number in four bytes, the lowest first, if it is below 65,536; else 65,535, which is more than any
+// kind or limit.
+pub fn small(bytes: [u8; 4]) -> u32
+    ensures { result ≡ cond (eqb (get_or bytes 2 0) 0 && eqb (get_or bytes 3 0) 0) (get_or bytes 0 0 + 256 * get_or bytes 1 0) 65535 }
 {
-    if c != 0 {
-        return 65535;
-    }
-    if d != 0 {
-        return 65535;
-    }
-    a as u32 + 256 * (b as u32)
+    u32::from_le_bytes(bytes).min(65535)
 }
 
 // How many key words n slots have.
@@ -27,8 +23,8 @@ fn key_words(kind: Kind, n: usize) -> usize
 
 // Lends a pool of n slots, and room for the answers of 2,048 records.
 pub fn serve_slots(kind: Kind, n: usize, records: &[u8]) {
-    if 4096 < n {
-        tell(pool::UNFIT);
+    if LIMIT < n {
+        tell(Refusal::Unfit);
         return;
     }
     let words = key_words(kind, n);
@@ -37,13 +33,11 @@ pub fn serve_slots(kind: Kind, n: usize, records: &[u8]) {
     let mut next = [0; 4096];
     let mut back = [0; 4096];
     let mut answers = [0; 81920];
-    serve(
-        kind,
-        &mut keys[..words],
-        &mut values[..n],
-        &mut next[..n],
-        &mut back[..n],
-        records,
-        &mut answers,
-    );
+    let mut pool = Pool {
+        keys: &mut keys[..words],
+        values: &mut values[..n],
+        next: &mut next[..n],
+        back: &mut back[..n],
+    };
+    serve(kind, &mut pool, records, &mut answers);
 }

@@ -1,27 +1,12 @@
--- Document 01's numbers and values for each case of an answer that is an enum: "any key, value, count or place it would give is
--- absent or 0".
-use Rattle.std.specs.Prelude.{Bool, true, false, ℕ}
+-- Document 01's numbers and values for each case of what `list` gives: "any key, value, count or place it would give is absent or 0".
+-- Those of the other calls are in the crate `engine`, specs/Answers.
+use Rattle.std.specs.Prelude.{List, ℕ, Result, Ok, Err}
+use Rattle.pool.specs.declared.refusal.Refusal.{Refusal}
+use Rattle.pool.specs.Codes.{refusal_code}
 use Rattle.pool.specs.World.{World}
-use Rattle.engine.specs.Outcome.{Outcome, answered}
-use Rattle.heap.specs.declared.answers.Given.{Given}
-use Rattle.heap.specs.declared.answers.Given.TheVariants.{Nothing, Entry}
-use Rattle.heap.specs.declared.answers.Top.{Top}
-use Rattle.heap.specs.declared.answers.Top.TheVariants.{Absent, Key}
+use Rattle.engine.specs.Outcome.{Listing, listing}
 
--- what a pop gives
-unfoldable pub pop_answered : ℕ → World → ℕ → Given → Outcome
-pop_answered code w moves Nothing = answered code w moves false 0 0 0 0
-pop_answered code w moves (Entry a b v) = answered code w moves true a b v 0
-
-unfoldable pub given_if : Bool → ℕ → ℕ → ℕ → Given
-given_if true a b v = Entry a b v
-given_if false a b v = Nothing
-
--- the top that was asked for
-unfoldable pub top_answered : ℕ → World → Top → Outcome
-top_answered code w Absent = answered code w 0 false 0 0 0 0
-top_answered code w (Key a b) = answered code w 0 true a b 0 0
-
-unfoldable pub top_if : Bool → ℕ → ℕ → Top
-top_if true a b = Key a b
-top_if false a b = Absent
+unfoldable pub list_answered : Result ℕ Refusal → World → List ℕ → List ℕ → Listing
+unfolding refusal_code
+list_answered (Ok n) w ks vs = listing 0 w ks vs n
+list_answered (Err r) w ks vs = listing (refusal_code r) w ks vs 0

@@ -1,190 +1,121 @@
 // The calls that change a heap: push, pop, constrain, clear and clear_to.
-ghost use Rattle.std.specs.Prelude.{◌≡◌, false};
+ghost use Rattle.std.specs.Prelude.{◌≡◌, false, Err};
+ghost use Rattle.pool.specs.Codes.{told};
 ghost use Rattle.pool.specs.World.{world_of};
-ghost use Rattle.engine.specs.Outcome.{answered};
-ghost use Rattle.heap.specs.Answers.{pop_answered};
+ghost use Rattle.pool.specs.Lent.{SamePool, world_in, world_seen};
+ghost use Rattle.pool.specs.Examine.{examined};
+ghost use Rattle.engine.specs.Outcome.{answered, key_code};
+ghost use Rattle.engine.specs.Core.{or_else};
+ghost use Rattle.engine.specs.Answers.{pop_answered, moves_answered};
 ghost use Rattle.heap.specs.Calls.{pushed, popped, constrained, cleared, cleared_to};
 
-use crate::answers::{Answer, Given, Moves, Popped, given_if};
-use pool::State;
+use engine::{Engine, Popped};
+use keys::{Reader, Words};
+use pool::{Answer, Pool, Refusal, State, View};
 
-// Takes an entry. Code 5 for a key that is not well-formed, 9 for a NaN, 6 for a key above the top, 7
-// for no free slot.
-pub fn push(
-    state: State,
-    keys: &mut [u64],
-    values: &mut [u64],
-    next: &mut [u32],
-    back: &mut [u32],
-    key0: u64,
-    key1: u64,
-    value: u64,
-) -> Answer
-    ensures { answered result.code (world_of result.state keys.new values.new next.new back.new) 0 false 0 0 0 0 ≡ pushed (world_of state keys.old values.old next.old back.old) key0 key1 value }
+// A call that is refused says why, and hands back the state that it got.
+fn refused<T>(state: State, refusal: Refusal) -> Answer<T, Refusal>
+    ensures told { result.told ≡ Err refusal }
+    ensures state { result.state ≡ state }
 {
-    let code = pool::examine(state, keys, values, next, back);
-    if code != 0 {
-        return Answer { code, state };
-    }
-    let mut first = state.first;
-    let mut last = state.last;
-    let mut busy = state.busy;
-    let masks = keys::kind_masks(state.head.kind);
-    let r = engine::push(
-        state.head, masks, &mut first, &mut last, &mut busy, keys, values, next, back, key0, key1,
-        value,
-    );
-    let head = r.head;
     Answer {
-        code: r.code,
-        state: State {
-            head,
-            first,
-            last,
-            busy,
-        },
+        told: Err(refusal),
+        state,
     }
 }
 
-// Gives out the greatest key, among equals the last pushed. Code 8 for an empty heap.
-pub fn pop(
-    state: State,
-    keys: &mut [u64],
-    values: &mut [u64],
-    next: &mut [u32],
-    back: &mut [u32],
-) -> Popped
-    ensures { pop_answered result.code (world_of result.state keys.new values.new next.new back.new) result.moves result.given ≡ popped (world_of state keys.old values.old next.old back.old) }
+// Takes an entry. Refused if the key is malformed, a NaN or above the top, or if no slot is free.
+pub fn push(state: State, pool: &mut Pool, key: Words, value: u64) -> Answer<(), Refusal>
+    ensures same { SamePool pool.new pool.old }
+    ensures gives { answered (told result.told) (world_in result.state pool.new) 0 false 0 0 0 0 ≡ pushed (world_in state pool.old) key.first key.second value }
 {
-    let code = pool::examine(state, keys, values, next, back);
-    if code != 0 {
-        return Popped {
-            code,
-            state,
-            moves: 0,
-            given: Given::Nothing,
-        };
+    if let Err(refusal) = pool::examine(&state, pool.view()) {
+        return refused(state, refusal);
     }
-    let mut first = state.first;
-    let mut last = state.last;
-    let mut busy = state.busy;
-    let masks = keys::kind_masks(state.head.kind);
-    let r = engine::pop(
-        state.head, masks, &mut first, &mut last, &mut busy, keys, values, next, back,
-    );
-    let head = r.head;
-    let given = given_if(r.code == 0, r.key0, r.key1, r.value);
-    Popped {
-        code: r.code,
-        state: State {
-            head,
-            first,
-            last,
-            busy,
-        },
-        moves: r.moves,
-        given,
+    let mut engine = Engine::of(state);
+    let told = engine.push(pool, key, value);
+    Answer {
+        told,
+        state: engine.state,
     }
 }
 
-// Makes the greatest key the top, if there is an entry.
+// Gives out the greatest key, among equals the last pushed. Refused if the heap is empty.
+pub fn pop(state: State, pool: &mut Pool) -> Answer<Popped, Refusal>
+    ensures same { SamePool pool.new pool.old }
+    ensures gives { pop_answered result.told (world_in result.state pool.new) ≡ popped (world_in state pool.old) }
+{
+    if let Err(refusal) = pool::examine(&state, pool.view()) {
+        return refused(state, refusal);
+    }
+    let mut engine = Engine::of(state);
+    let told = engine.pop(pool);
+    Answer {
+        told,
+        state: engine.state,
+    }
+}
+
+// Makes the greatest key the top, if there is an entry. Gives how many entries were moved. Keys and
+// values are lent to be read only, so the four slices come one by one.
 pub fn constrain(
     state: State,
     keys: &[u64],
     values: &[u64],
     next: &mut [u32],
     back: &mut [u32],
-) -> Moves
-    ensures { answered result.code (world_of result.state keys.now values.now next.new back.new) result.moves false 0 0 0 0 ≡ constrained (world_of state keys.now values.now next.old back.old) }
+) -> Answer<u32, Refusal>
+    ensures { moves_answered result.told (world_of result.state keys.now values.now next.new back.new) ≡ constrained (world_of state keys.now values.now next.old back.old) }
 {
-    let code = pool::examine(state, keys, values, next, back);
-    if code != 0 {
-        return Moves {
-            code,
-            state,
-            moves: 0,
-        };
+    let view = View {
+        keys,
+        values,
+        next,
+        back,
+    };
+    if let Err(refusal) = pool::examine(&state, view) {
+        return refused(state, refusal);
     }
-    let mut first = state.first;
-    let mut last = state.last;
-    let mut busy = state.busy;
-    let masks = keys::kind_masks(state.head.kind);
-    let r = engine::constrain(
-        state.head, masks, &mut first, &mut last, &mut busy, keys, next, back,
-    );
-    let head = r.head;
-    Moves {
-        code: 0,
-        state: State {
-            head,
-            first,
-            last,
-            busy,
-        },
-        moves: r.moves,
+    let mut engine = Engine::of(state);
+    let moves = engine.constrain(keys, next, back);
+    Answer {
+        told: Ok(moves),
+        state: engine.state,
     }
 }
 
-// Drops every entry and the top.
-pub fn clear(
-    state: State,
-    keys: &mut [u64],
-    values: &mut [u64],
-    next: &mut [u32],
-    back: &mut [u32],
-) -> Moves
-    ensures { answered result.code (world_of result.state keys.new values.new next.new back.new) result.moves false 0 0 0 0 ≡ cleared (world_of state keys.old values.old next.old back.old) }
+// Drops every entry and the top. Moves none.
+pub fn clear(state: State, pool: &mut Pool) -> Answer<u32, Refusal>
+    ensures same { SamePool pool.new pool.old }
+    ensures gives { moves_answered result.told (world_in result.state pool.new) ≡ cleared (world_in state pool.old) }
 {
-    let code = pool::examine(state, keys, values, next, back);
-    if code != 0 {
-        return Moves {
-            code,
-            state,
-            moves: 0,
-        };
+    if let Err(refusal) = pool::examine(&state, pool.view()) {
+        return refused(state, refusal);
     }
-    pool::lay_fresh(keys, values, next, back);
-    let kind = state.head.kind;
-    Moves {
-        code: 0,
-        state: pool::fresh_state(kind, next.len() as u32, false, 0, 0),
-        moves: 0,
+    Answer {
+        told: Ok(0),
+        state: pool::lay_fresh(pool, state.head.kind, None),
     }
 }
 
-// Drops every entry and makes this key the top. Code 5 for a key that is not well-formed, 9 for a NaN.
-pub fn clear_to(
-    state: State,
-    keys: &mut [u64],
-    values: &mut [u64],
-    next: &mut [u32],
-    back: &mut [u32],
-    key0: u64,
-    key1: u64,
-) -> Moves
-    ensures { answered result.code (world_of result.state keys.new values.new next.new back.new) result.moves false 0 0 0 0 ≡ cleared_to (world_of state keys.old values.old next.old back.old) key0 key1 }
+// Is the pool sound, and may this key be its top?
+fn test_clear_to(state: &State, view: View, key: Words) -> Result<(), Refusal>
+    ensures { told result ≡ or_else (examined (world_seen state.now view.entry)) (key_code state.now.head.kind key.first key.second) }
 {
-    let code = pool::examine(state, keys, values, next, back);
-    if code != 0 {
-        return Moves {
-            code,
-            state,
-            moves: 0,
-        };
+    pool::examine(state, view)?;
+    engine::test_key(Reader::of(state.head.kind), key)
+}
+
+// Drops every entry and makes this key the top. Refused if the key is malformed or a NaN. Moves none.
+pub fn clear_to(state: State, pool: &mut Pool, key: Words) -> Answer<u32, Refusal>
+    ensures same { SamePool pool.new pool.old }
+    ensures gives { moves_answered result.told (world_in result.state pool.new) ≡ cleared_to (world_in state pool.old) key.first key.second }
+{
+    if let Err(refusal) = test_clear_to(&state, pool.view(), key) {
+        return refused(state, refusal);
     }
-    let kind = state.head.kind;
-    let told = engine::key_code(kind, keys::kind_masks(kind), key0, key1);
-    if told != 0 {
-        return Moves {
-            code: told,
-            state,
-            moves: 0,
-        };
-    }
-    pool::lay_fresh(keys, values, next, back);
-    Moves {
-        code: 0,
-        state: pool::fresh_state(kind, next.len() as u32, true, key0, key1),
-        moves: 0,
+    Answer {
+        told: Ok(0),
+        state: pool::lay_fresh(pool, state.head.kind, Some(key)),
     }
 }

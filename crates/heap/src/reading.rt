@@ -1,97 +1,76 @@
 // The calls that only read: top, len, examine and list.
-ghost use Rattle.std.specs.Prelude.{◌≡◌, false};
-ghost use Rattle.pool.specs.World.{world_of};
+ghost use Rattle.std.specs.Prelude.{◌≡◌};
+ghost use Rattle.pool.specs.Codes.{told};
+ghost use Rattle.pool.specs.Lent.{world_seen};
 ghost use Rattle.pool.specs.Examine.{examined};
-ghost use Rattle.engine.specs.Outcome.{answered, listing, room_for};
-ghost use Rattle.heap.specs.Answers.{top_answered};
+ghost use Rattle.engine.specs.Outcome.{room_for};
+ghost use Rattle.engine.specs.Answers.{top_answered, len_answered};
+ghost use Rattle.heap.specs.Answers.{list_answered};
 ghost use Rattle.heap.specs.Calls.{top_read, len_read, listed};
 
-use crate::answers::{Length, Listed, Top, TopRead, top_if};
-use keys::Kind;
-use pool::State;
+use keys::{Kind, Words};
+use pool::{Refusal, State, View};
 
 // The top, if there is one: no greater key will be taken.
-pub fn top(state: State, keys: &[u64], values: &[u64], next: &[u32], back: &[u32]) -> TopRead
-    ensures { top_answered result.code (world_of state keys.now values.now next.now back.now) result.top ≡ top_read (world_of state keys.now values.now next.now back.now) }
+pub fn top(state: State, view: View) -> Result<Option<Words>, Refusal>
+    ensures { top_answered result (world_seen state view.entry) ≡ top_read (world_seen state view.entry) }
 {
-    let code = pool::examine(state, keys, values, next, back);
-    if code != 0 {
-        return TopRead {
-            code,
-            top: Top::Absent,
-        };
-    }
+    pool::examine(&state, view)?;
     let head = state.head;
-    TopRead {
-        code: 0,
-        top: top_if(head.topped, head.top0, head.top1),
-    }
+    Ok(if head.topped {
+        Some(head.top_words())
+    } else {
+        None
+    })
 }
 
 // How many entries the heap holds.
-pub fn len(state: State, keys: &[u64], values: &[u64], next: &[u32], back: &[u32]) -> Length
-    ensures { answered result.code (world_of state keys.now values.now next.now back.now) 0 false 0 0 0 result.length ≡ len_read (world_of state keys.now values.now next.now back.now) }
+pub fn len(state: State, view: View) -> Result<u32, Refusal>
+    ensures { len_answered result (world_seen state view.entry) ≡ len_read (world_seen state view.entry) }
 {
-    let code = pool::examine(state, keys, values, next, back);
-    if code != 0 {
-        return Length { code, length: 0 };
-    }
-    let head = state.head;
-    Length {
-        code: 0,
-        length: head.len,
-    }
+    pool::examine(&state, view)?;
+    Ok(state.head.len)
 }
 
-// Code 1 for a kind or slices that do not fit, 2 for a pool that is not sound, else 0.
-pub fn examine(state: State, keys: &[u64], values: &[u64], next: &[u32], back: &[u32]) -> u8
-    ensures { result ≡ examined (world_of state keys.now values.now next.now back.now) }
+// Is the pool fit and sound?
+pub fn examine(state: State, view: View) -> Result<(), Refusal>
+    ensures { told result ≡ examined (world_seen state view.entry) }
 {
-    pool::examine(state, keys, values, next, back)
+    pool::examine(&state, view)
 }
 
 // Do `len` entries find room in so many key words and values?
 fn has_room(kind: Kind, len: usize, words: usize, values: usize) -> bool
     ensures { result ≡ room_for kind len words values }
 {
-    if values < len {
-        return false;
-    }
-    if keys::is_wide(kind) {
-        len <= words / 2
+    let places = if keys::is_wide(kind) {
+        words / 2
     } else {
-        len <= words
-    }
+        words
+    };
+    len <= places && len <= values
 }
 
 // Writes every entry to two rooms: the waiting chain, then the buckets from 0 upwards, each front to
-// back. Key words are laid as in the pool. Code 4 if either room is too short.
+// back. Key words are laid as in the pool. Gives how many there are. Refused if either room is too short.
 pub fn list(
     state: State,
-    keys: &[u64],
-    values: &[u64],
-    next: &[u32],
-    back: &[u32],
+    view: View,
     listkeys: &mut [u64],
     listvalues: &mut [u64],
-) -> Listed
-    ensures { listing result.code (world_of state keys.now values.now next.now back.now) listkeys.new listvalues.new result.count ≡ listed (world_of state keys.now values.now next.now back.now) listkeys.old listvalues.old }
+) -> Result<u32, Refusal>
+    ensures { list_answered result (world_seen state view.entry) listkeys.new listvalues.new ≡ listed (world_seen state view.entry) listkeys.old listvalues.old }
 {
-    let code = pool::examine(state, keys, values, next, back);
-    if code != 0 {
-        return Listed { code, count: 0 };
-    }
+    pool::examine(&state, view)?;
     let head = state.head;
-    let len = head.len as usize;
-    if !has_room(head.kind, len, listkeys.len(), listvalues.len()) {
-        return Listed { code: 4, count: 0 };
+    if !has_room(
+        head.kind,
+        head.len as usize,
+        listkeys.len(),
+        listvalues.len(),
+    ) {
+        return Err(Refusal::NoRoom);
     }
-    let first = state.first;
-    engine::list_all(
-        head.kind, len, &first, keys, values, next, listkeys, listvalues,
-    );
-    Listed {
-        code: 0,
-        count: head.len,
-    }
+    engine::list_all(&state, view, listkeys, listvalues);
+    Ok(head.len)
 }

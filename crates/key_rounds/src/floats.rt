@@ -1,6 +1,7 @@
 // Floats: made from their patterns and back, compared and measured, and told from NaNs.
-use crate::{line, rounds};
-use keys::{Float, Kind};
+use crate::{line, order, rounds};
+use keys::{Float, Key, Kind, Words};
+use std::io;
 
 const ZERO: u64 = 0;
 
@@ -20,30 +21,24 @@ fn minus(word: u64) -> u64 {
 }
 
 fn comes_back(word: u64) -> bool {
-    rounds::float_round(word) == word && rounds::float_round(minus(word)) == minus(word)
+    let other = minus(word);
+    rounds::round::<Float, u64>(word) == word && rounds::round::<Float, u64>(other) == other
 }
 
-// Is `a` above `b` and not the other way round, and are they this far apart from either side?
-fn above(a: u64, b: u64, distance: u32) -> bool {
-    let high = Float::from_word(a);
-    let low = Float::from_word(b);
-    if low.above(high) || low.distance(high) != distance {
-        return false;
-    }
-    high.above(low) && high.distance(low) == distance
-}
-
-// The same by the words of kind 6.
-fn above_by_kind(a: u64, b: u64, distance: u32) -> bool {
-    let kind = Kind::bare(6);
-    if keys::above(kind, b, 0, a, 0) || keys::distance(kind, b, 0, a, 0) != distance {
-        return false;
-    }
-    keys::above(kind, a, 0, b, 0) && keys::distance(kind, a, 0, b, 0) == distance
-}
-
+// Is `a` above `b` and not the other way round, and are they this far apart from either side? As keys of
+// their type, and by the words of kind 6.
 fn apart(a: u64, b: u64, distance: u32) -> bool {
-    above(a, b, distance) && above_by_kind(a, b, distance)
+    apart_by_type(Float(a), Float(b), distance)
+        && apart_by_kind(Words::from(a), Words::from(b), distance)
+}
+
+fn apart_by_type(a: Float, b: Float, distance: u32) -> bool {
+    order::above(a, b) && order::far(a, b, distance)
+}
+
+fn apart_by_kind(a: Words, b: Words, distance: u32) -> bool {
+    let kind = Kind::bare(6);
+    order::above_by(kind, a, b) && order::far_by(kind, a, b, distance)
 }
 
 // Of the same two with the other sign the order is the other, and the distance is the same.
@@ -53,124 +48,160 @@ fn apart_with_both_signs(a: u64, b: u64, distance: u32) -> bool {
 
 // No key is above itself, nor at a distance.
 fn equal(word: u64) -> bool {
-    let key = Float::from_word(word);
+    let key = Float(word);
     !key.above(key) && key.distance(key) == 0
 }
 
-fn rounds_lines() {
-    line(b"float 0.0, -0.0: back the same", comes_back(ZERO));
-    line(b"float 1.0, -1.0: back the same", comes_back(ONE));
-    line(b"float inf, -inf: back the same", comes_back(INFINITY));
-    line(b"float, every bit set: back the same", comes_back(LAST_NAN));
+fn rounds_lines(rt: &impl Print) -> io::Result<()> {
+    line(rt, "float 0.0, -0.0: back the same", comes_back(ZERO))?;
+    line(rt, "float 1.0, -1.0: back the same", comes_back(ONE))?;
+    line(rt, "float inf, -inf: back the same", comes_back(INFINITY))?;
     line(
-        b"float -0.0, -1.0: not above itself, distance 0",
+        rt,
+        "float, every bit set: back the same",
+        comes_back(LAST_NAN),
+    )?;
+    line(
+        rt,
+        "float -0.0, -1.0: not above itself, distance 0",
         equal(minus(ZERO)) && equal(minus(ONE)),
-    );
+    )
 }
 
-fn signs_lines() {
+fn signs_lines(rt: &impl Print) -> io::Result<()> {
     line(
-        b"float 0.0 above -0.0: distance 64",
+        rt,
+        "float 0.0 above -0.0: distance 64",
         apart(ZERO, minus(ZERO), 64),
-    );
+    )?;
     line(
-        b"float 1.0 above -1.0: distance 64",
+        rt,
+        "float 1.0 above -1.0: distance 64",
         apart(ONE, minus(ONE), 64),
-    );
+    )?;
     line(
-        b"float 5e-324 above -5e-324: distance 64",
+        rt,
+        "float 5e-324 above -5e-324: distance 64",
         apart(LEAST, minus(LEAST), 64),
-    );
+    )?;
     line(
-        b"float inf above -inf: distance 64",
+        rt,
+        "float inf above -inf: distance 64",
         apart(INFINITY, minus(INFINITY), 64),
-    );
+    )?;
     line(
-        b"float 5e-324 above -inf: distance 64",
+        rt,
+        "float 5e-324 above -inf: distance 64",
         apart(LEAST, minus(INFINITY), 64),
-    );
+    )
 }
 
 // A neighbour of the same exponent differs in the lowest bits, and at a power of two in 53: in the
 // exponent's lowest bit and in all below it.
-fn neighbours_lines() {
+fn neighbours_lines(rt: &impl Print) -> io::Result<()> {
     line(
-        b"float 5e-324 above 0.0, -0.0 above -5e-324: distance 1",
+        rt,
+        "float 5e-324 above 0.0, -0.0 above -5e-324: distance 1",
         apart_with_both_signs(LEAST, ZERO, 1),
-    );
+    )?;
     line(
-        b"float 1.0000000000000002 above 1.0, and minus these: distance 1",
+        rt,
+        "float 1.0000000000000002 above 1.0, and minus these: distance 1",
         apart_with_both_signs(ONE + 1, ONE, 1),
-    );
+    )?;
     line(
-        b"float 1.0 above 0.9999999999999999, and minus these: distance 53",
+        rt,
+        "float 1.0 above 0.9999999999999999, and minus these: distance 53",
         apart_with_both_signs(ONE, ONE - 1, 53),
-    );
+    )?;
     line(
-        b"float inf above the greatest number, and minus these: distance 53",
+        rt,
+        "float inf above the greatest number, and minus these: distance 53",
         apart_with_both_signs(INFINITY, INFINITY - 1, 53),
-    );
+    )?;
     line(
-        b"float 1.0 above 0.0, -0.0 above -1.0: distance 62",
+        rt,
+        "float 1.0 above 0.0, -0.0 above -1.0: distance 62",
         apart_with_both_signs(ONE, ZERO, 62),
-    );
+    )?;
     line(
-        b"float inf above 1.0, and minus these: distance 63",
+        rt,
+        "float inf above 1.0, and minus these: distance 63",
         apart_with_both_signs(INFINITY, ONE, 63),
-    );
+    )
 }
 
 // A key and what is told of it: is it a NaN by its type and by kind 6, and may it stand in a pool? Its
 // words are well-formed either way, and with a second word neither.
 fn told(word: u64, nan: bool) -> bool {
     let kind = Kind::bare(6);
-    if Float::from_word(word).is_nan() != nan || keys::is_nan(kind, word) != nan {
-        return false;
-    }
-    if keys::well_formed(kind, word, 1) || keys::is_proper(kind, word, 1) {
-        return false;
-    }
-    keys::well_formed(kind, word, 0) && keys::is_proper(kind, word, 0) != nan
+    let key = Words::from(word);
+    Float(word).is_nan() == nan
+        && keys::is_nan(kind, key) == nan
+        && keys::well_formed(kind, key)
+        && keys::is_proper(kind, key) != nan
+        && refused(
+            kind,
+            Words {
+                first: word,
+                second: 1,
+            },
+        )
+}
+
+fn refused(kind: Kind, key: Words) -> bool {
+    !keys::well_formed(kind, key) && !keys::is_proper(kind, key)
 }
 
 fn told_with_both_signs(word: u64, nan: bool) -> bool {
     told(word, nan) && told(minus(word), nan)
 }
 
-fn ordinary(kind: Kind, word: u64) -> bool {
-    keys::is_proper(kind, word, 0) && !keys::is_nan(kind, word)
+fn ordinary(number: u32, word: u64) -> bool {
+    let kind = Kind::bare(number);
+    let key = Words::from(word);
+    keys::is_proper(kind, key) && !keys::is_nan(kind, key)
 }
 
-fn nan_lines() {
+fn nan_lines(rt: &impl Print) -> io::Result<()> {
     line(
-        b"float 0.0, -0.0: no NaN",
+        rt,
+        "float 0.0, -0.0: no NaN",
         told_with_both_signs(ZERO, false),
-    );
-    line(b"float 1.0, -1.0: no NaN", told_with_both_signs(ONE, false));
+    )?;
     line(
-        b"float inf, -inf: no NaN",
+        rt,
+        "float 1.0, -1.0: no NaN",
+        told_with_both_signs(ONE, false),
+    )?;
+    line(
+        rt,
+        "float inf, -inf: no NaN",
         told_with_both_signs(INFINITY, false),
-    );
+    )?;
     line(
-        b"float, the pattern after inf, and after -inf: NaN",
+        rt,
+        "float, the pattern after inf, and after -inf: NaN",
         told_with_both_signs(INFINITY + 1, true),
-    );
+    )?;
     line(
-        b"float, every bit set, and every bit but the sign: NaN",
+        rt,
+        "float, every bit set, and every bit but the sign: NaN",
         told_with_both_signs(LAST_NAN, true),
-    );
+    )?;
     line(
-        b"plain, signed, reversed, pair with that pattern: no NaN",
-        ordinary(Kind::bare(1), LAST_NAN)
-            && ordinary(Kind::bare(2), LAST_NAN)
-            && ordinary(Kind::bare(3), LAST_NAN)
-            && ordinary(Kind::bare(4), LAST_NAN),
-    );
+        rt,
+        "plain, signed, reversed, pair with that pattern: no NaN",
+        ordinary(1, LAST_NAN)
+            && ordinary(2, LAST_NAN)
+            && ordinary(3, LAST_NAN)
+            && ordinary(4, LAST_NAN),
+    )
 }
 
-pub fn lines() {
-    rounds_lines();
-    signs_lines();
-    neighbours_lines();
-    nan_lines();
+pub fn lines(rt: &impl Print) -> io::Result<()> {
+    rounds_lines(rt)?;
+    signs_lines(rt)?;
+    neighbours_lines(rt)?;
+    nan_lines(rt)
 }

@@ -1,6 +1,7 @@
 // Mixed keys: packed, read back, compared and measured.
-use crate::{line, rounds};
-use keys::{Kind, Mixed, Parts, REVERSED, SIGNED, Signed, Table};
+use crate::{line, order, rounds};
+use keys::{Kind, Mixed, Parts, REVERSED, SIGNED, Signed, Table, Words};
+use std::io;
 
 // 32,16,8r: a day, a road and a reversed priority, which lie in the second word.
 fn jobs() -> Table {
@@ -33,247 +34,255 @@ fn parts(first: u64, second: u64, third: u64, fourth: u64) -> Parts {
 
 // The parts of a key with the table `across`.
 fn apart(first: u64, number: i64, third: u64) -> Parts {
-    parts(first, Signed(number).word(), third, 0)
+    parts(first, u64::from(Signed(number)), third, 0)
 }
 
 // The parts of a key with the table `signed_first`: the number's pattern in 16 bits.
 fn numbered(number: i64, second: u64) -> Parts {
-    parts(Signed(number).word() % 65536, second, 0, 0)
-}
-
-fn same_parts(p: Parts, q: Parts) -> bool {
-    if p.first != q.first || p.second != q.second {
-        return false;
-    }
-    p.third == q.third && p.fourth == q.fourth
+    parts(u64::from(Signed(number)) % 65536, second, 0, 0)
 }
 
 // Are these the words of the parts' key, and does each come back from the other?
 fn packed(table: Table, p: Parts, first: u64, second: u64) -> bool {
-    let packing = keys::pack(table, p);
-    let key = packing.key;
-    let words = rounds::mixed_round(table, Mixed::from_words(first, second));
-    if words.first() != first || words.second() != second {
-        return false;
-    }
-    if key.first() != first || key.second() != second {
-        return false;
-    }
-    packing.fits && same_parts(rounds::parts_round(table, p), p)
+    let key = Mixed(first, second);
+    keys::pack(table, p) == Some(key)
+        && rounds::mixed_round(table, key) == Some(key)
+        && rounds::parts_round(table, p) == Some(p)
 }
 
-// Are the parts refused, with the zero key in place of theirs?
+// Are the parts refused?
 fn unfit(table: Table, p: Parts) -> bool {
-    let packing = keys::pack(table, p);
-    let key = packing.key;
-    !packing.fits && key.first() == 0 && key.second() == 0
+    keys::pack(table, p).is_none()
 }
 
 // Is the key of `p` above that of `q` and not the other way round?
 fn above(table: Table, p: Parts, q: Parts) -> bool {
-    let kind = Kind::mixed(table);
-    let high = keys::pack(table, p);
-    let low = keys::pack(table, q);
-    let a = high.key;
-    let b = low.key;
-    if keys::above(kind, b.first(), b.second(), a.first(), a.second()) {
-        return false;
+    match (keys::pack(table, p), keys::pack(table, q)) {
+        (Some(a), Some(b)) => order::above_by(Kind::mixed(table), Words::from(a), Words::from(b)),
+        _ => false,
     }
-    keys::above(kind, a.first(), a.second(), b.first(), b.second())
 }
 
 // Are the keys of `p` and of `q` this far apart, from either side?
 fn far(table: Table, p: Parts, q: Parts, distance: u32) -> bool {
     let kind = Kind::mixed(table);
-    let one = keys::pack(table, p);
-    let other = keys::pack(table, q);
-    let a = one.key;
-    let b = other.key;
-    if keys::distance(kind, b.first(), b.second(), a.first(), a.second()) != distance {
-        return false;
+    match (keys::pack(table, p), keys::pack(table, q)) {
+        (Some(a), Some(b)) => order::far_by(kind, Words::from(a), Words::from(b), distance),
+        _ => false,
     }
-    keys::distance(kind, a.first(), a.second(), b.first(), b.second()) == distance
 }
 
-fn round_lines() {
+fn round_lines(rt: &impl Print) -> io::Result<()> {
     line(
-        b"mixed 32,16,8r (0,0,0): words 0 and 0, back the same",
+        rt,
+        "mixed 32,16,8r (0,0,0): words 0 and 0, back the same",
         packed(jobs(), parts(0, 0, 0, 0), 0, 0),
-    );
+    )?;
     line(
-        b"mixed 32,16,8r (19,4,1): words 0 and 318768129, back the same",
+        rt,
+        "mixed 32,16,8r (19,4,1): words 0 and 318768129, back the same",
         packed(jobs(), parts(19, 4, 1, 0), 0, 318768129),
-    );
+    )?;
     line(
-        b"mixed 32,16,8r (2147483648,32768,128): words 0 and 36028797027352704, back the same",
+        rt,
+        "mixed 32,16,8r (2147483648,32768,128): words 0 and 36028797027352704, back the same",
         packed(
             jobs(),
             parts(2147483648, 32768, 128, 0),
             0,
             36028797027352704,
         ),
-    );
+    )?;
     line(
-        b"mixed 32,16,8r (4294967295,65535,255): words 0 and 72057594037927935, back the same",
+        rt,
+        "mixed 32,16,8r (4294967295,65535,255): words 0 and 72057594037927935, back the same",
         packed(
             jobs(),
             parts(4294967295, 65535, 255, 0),
             0,
             72057594037927935,
         ),
-    );
+    )
 }
 
-fn full_lines() {
+fn full_lines(rt: &impl Print) -> io::Result<()> {
     line(
-        b"mixed 16,32,64r,16 (1,2,3,4): words 281474976841728 and 196612, back the same",
+        rt,
+        "mixed 16,32,64r,16 (1,2,3,4): words 281474976841728 and 196612, back the same",
         packed(full(), parts(1, 2, 3, 4), 281474976841728, 196612),
-    );
+    )?;
     let w = 18446744073709551615;
     line(
-        b"mixed 16,32,64r,16 of the greatest parts: every bit set, back the same",
+        rt,
+        "mixed 16,32,64r,16 of the greatest parts: every bit set, back the same",
         packed(full(), parts(65535, 4294967295, w, 65535), w, w),
-    );
+    )
 }
 
 // Of the signed part 8 bits lie in the first word and 56 in the second.
-fn across_lines() {
+fn across_lines(rt: &impl Print) -> io::Result<()> {
     line(
-        b"mixed 8,64s,8 (0,-1,0): words 255 and 18446744073709551360, back the same",
+        rt,
+        "mixed 8,64s,8 (0,-1,0): words 255 and 18446744073709551360, back the same",
         packed(across(), apart(0, -1, 0), 255, 18446744073709551360),
-    );
+    )?;
     line(
-        b"mixed 8,64s,8 (1,-9223372036854775808,2): words 384 and 2, back the same",
+        rt,
+        "mixed 8,64s,8 (1,-9223372036854775808,2): words 384 and 2, back the same",
         packed(across(), apart(1, -9223372036854775808, 2), 384, 2),
-    );
+    )?;
     line(
-        b"mixed 8,64s,8 (0,9223372036854775807,255): words 127 and 18446744073709551615, back the same",
+        rt,
+        "mixed 8,64s,8 (0,9223372036854775807,255): words 127 and 18446744073709551615, back the same",
         packed(
             across(),
             apart(0, 9223372036854775807, 255),
             127,
             18446744073709551615,
         ),
-    );
+    )?;
     line(
-        b"mixed 8,64s,8 (255,-1,255): words 65535 and 18446744073709551615, back the same",
+        rt,
+        "mixed 8,64s,8 (255,-1,255): words 65535 and 18446744073709551615, back the same",
         packed(across(), apart(255, -1, 255), 65535, 18446744073709551615),
-    );
+    )
 }
 
-fn unfit_lines() {
+fn unfit_lines(rt: &impl Print) -> io::Result<()> {
     line(
-        b"mixed 32,16,8r (4294967296,0,0): does not fit",
+        rt,
+        "mixed 32,16,8r (4294967296,0,0): does not fit",
         unfit(jobs(), parts(4294967296, 0, 0, 0)),
-    );
+    )?;
     line(
-        b"mixed 32,16,8r (0,65536,0): does not fit",
+        rt,
+        "mixed 32,16,8r (0,65536,0): does not fit",
         unfit(jobs(), parts(0, 65536, 0, 0)),
-    );
+    )?;
     line(
-        b"mixed 32,16,8r (0,0,256): does not fit",
+        rt,
+        "mixed 32,16,8r (0,0,256): does not fit",
         unfit(jobs(), parts(0, 0, 256, 0)),
-    );
+    )?;
     line(
-        b"mixed 32,16,8r (0,0,0,1): does not fit",
+        rt,
+        "mixed 32,16,8r (0,0,0,1): does not fit",
         unfit(jobs(), parts(0, 0, 0, 1)),
-    );
+    )
 }
 
 // In each of these the later part alone would say the opposite.
-fn signed_lines() {
+fn signed_lines(rt: &impl Print) -> io::Result<()> {
     line(
-        b"mixed 16s,16 (1,0) above (0,65535)",
+        rt,
+        "mixed 16s,16 (1,0) above (0,65535)",
         above(signed_first(), numbered(1, 0), numbered(0, 65535)),
-    );
+    )?;
     line(
-        b"mixed 16s,16 (0,0) above (-1,65535)",
+        rt,
+        "mixed 16s,16 (0,0) above (-1,65535)",
         above(signed_first(), numbered(0, 0), numbered(-1, 65535)),
-    );
+    )?;
     line(
-        b"mixed 16s,16 (-1,0) above (-32768,65535)",
+        rt,
+        "mixed 16s,16 (-1,0) above (-32768,65535)",
         above(signed_first(), numbered(-1, 0), numbered(-32768, 65535)),
-    );
+    )?;
     line(
-        b"mixed 16s,16 (32767,0) above (-32768,65535)",
+        rt,
+        "mixed 16s,16 (32767,0) above (-32768,65535)",
         above(signed_first(), numbered(32767, 0), numbered(-32768, 65535)),
-    );
+    )?;
     line(
-        b"mixed 8,64s,8 (7,0,0) above (7,-1,255)",
+        rt,
+        "mixed 8,64s,8 (7,0,0) above (7,-1,255)",
         above(across(), apart(7, 0, 0), apart(7, -1, 255)),
-    );
+    )?;
     line(
-        b"mixed 8,64s,8 (1,-9223372036854775808,0) above (0,9223372036854775807,255)",
+        rt,
+        "mixed 8,64s,8 (1,-9223372036854775808,0) above (0,9223372036854775807,255)",
         above(
             across(),
             apart(1, -9223372036854775808, 0),
             apart(0, 9223372036854775807, 255),
         ),
-    );
+    )
 }
 
 // A later part counts only if the earlier ones are equal.
-fn order_lines() {
+fn order_lines(rt: &impl Print) -> io::Result<()> {
     line(
-        b"mixed 32,16,8r (2,0,255) above (1,65535,0)",
+        rt,
+        "mixed 32,16,8r (2,0,255) above (1,65535,0)",
         above(jobs(), parts(2, 0, 255, 0), parts(1, 65535, 0, 0)),
-    );
+    )?;
     line(
-        b"mixed 32,16,8r (2,5,255) above (2,4,0)",
+        rt,
+        "mixed 32,16,8r (2,5,255) above (2,4,0)",
         above(jobs(), parts(2, 5, 255, 0), parts(2, 4, 0, 0)),
-    );
+    )?;
     line(
-        b"mixed 32,16,8r (2,4,1) above (2,4,2)",
+        rt,
+        "mixed 32,16,8r (2,4,1) above (2,4,2)",
         above(jobs(), parts(2, 4, 1, 0), parts(2, 4, 2, 0)),
-    );
+    )?;
     line(
-        b"mixed 32,16,8r (2,4,0) above (2,4,255)",
+        rt,
+        "mixed 32,16,8r (2,4,0) above (2,4,255)",
         above(jobs(), parts(2, 4, 0, 0), parts(2, 4, 255, 0)),
-    );
+    )?;
     line(
-        b"mixed 16,32,64r,16 (1,1,8,0) above (1,1,9,65535)",
+        rt,
+        "mixed 16,32,64r,16 (1,1,8,0) above (1,1,9,65535)",
         above(full(), parts(1, 1, 8, 0), parts(1, 1, 9, 65535)),
-    );
+    )
 }
 
-fn distance_lines() {
+fn distance_lines(rt: &impl Print) -> io::Result<()> {
     let job = parts(19, 4, 1, 0);
     line(
-        b"mixed 32,16,8r (19,4,1) to itself: distance 0",
+        rt,
+        "mixed 32,16,8r (19,4,1) to itself: distance 0",
         far(jobs(), job, job, 0),
-    );
+    )?;
     line(
-        b"mixed 32,16,8r (19,4,1) to (19,4,2): distance 2",
+        rt,
+        "mixed 32,16,8r (19,4,1) to (19,4,2): distance 2",
         far(jobs(), job, parts(19, 4, 2, 0), 2),
-    );
+    )?;
     line(
-        b"mixed 32,16,8r (19,4,1) to (19,5,200): distance 9",
+        rt,
+        "mixed 32,16,8r (19,4,1) to (19,5,200): distance 9",
         far(jobs(), job, parts(19, 5, 200, 0), 9),
-    );
+    )?;
     line(
-        b"mixed 32,16,8r (19,4,1) to (18,9,200): distance 25",
+        rt,
+        "mixed 32,16,8r (19,4,1) to (18,9,200): distance 25",
         far(jobs(), job, parts(18, 9, 200, 0), 25),
-    );
+    )?;
     line(
-        b"mixed 16s,16 (0,0) to (-1,0): distance 32",
+        rt,
+        "mixed 16s,16 (0,0) to (-1,0): distance 32",
         far(signed_first(), numbered(0, 0), numbered(-1, 0), 32),
-    );
+    )?;
     line(
-        b"mixed 8,64s,8 (7,0,0) to (7,-1,0): distance 72",
+        rt,
+        "mixed 8,64s,8 (7,0,0) to (7,-1,0): distance 72",
         far(across(), apart(7, 0, 0), apart(7, -1, 0), 72),
-    );
+    )?;
     line(
-        b"mixed 8,64s,8 (7,0,0) to (6,0,0): distance 73",
+        rt,
+        "mixed 8,64s,8 (7,0,0) to (6,0,0): distance 73",
         far(across(), apart(7, 0, 0), apart(6, 0, 0), 73),
-    );
+    )
 }
 
-pub fn lines() {
-    round_lines();
-    across_lines();
-    full_lines();
-    unfit_lines();
-    signed_lines();
-    order_lines();
-    distance_lines();
+pub fn lines(rt: &impl Print) -> io::Result<()> {
+    round_lines(rt)?;
+    across_lines(rt)?;
+    full_lines(rt)?;
+    unfit_lines(rt)?;
+    signed_lines(rt)?;
+    order_lines(rt)?;
+    distance_lines(rt)
 }

@@ -1,69 +1,46 @@
 // A key made from its word or words gives them back, and a signed number comes back from its word. The
 // parts of a mixed key come back from its words, and its words from the parts.
-ghost use Rattle.std.specs.Prelude.{◌≡◌, true};
+ghost use Rattle.std.specs.Prelude.{◌≡◌, true, is_some, IfSome, Some};
 ghost use Rattle.keys.specs.Table.{table_fits, mixed};
 ghost use Rattle.keys.specs.Ordered.{well_formed};
 ghost use Rattle.keys.specs.Packing.{parts_fit};
 
-use keys::{Float, Mixed, Pair, Parts, Plain, Reversed, Signed, Table};
+use keys::{Mixed, Parts, Signed, Table};
 
-pub fn plain_round(w: u64) -> u64
+// What a key is made from, at a type whose two conversions undo each other. A signed number's do so only
+// for words and numbers of 64 bits, which the clause cannot say of every `W`: it has functions of its own.
+pub fn round<K: From<W>, W: From<K>>(w: W) -> W
+    requires { (key : K) (back : W) → K.from_gives w key → W.from_gives key back → back ≡ w }
     ensures { result ≡ w }
 {
-    Plain::from_word(w).word()
+    W::from(K::from(w))
 }
 
-pub fn reversed_round(w: u64) -> u64
-    ensures { result ≡ w }
+pub fn signed_round(word: u64) -> u64
+    ensures { result ≡ word }
 {
-    Reversed::from_word(w).word()
-}
-
-pub fn float_round(w: u64) -> u64
-    ensures { result ≡ w }
-{
-    Float::from_word(w).word()
-}
-
-pub fn signed_round(w: u64) -> u64
-    ensures { result ≡ w }
-{
-    Signed::from_word(w).word()
+    u64::from(Signed::from(word))
 }
 
 // The other way round.
 pub fn number_round(z: i64) -> i64
     ensures { result ≡ z }
 {
-    let w = Signed(z).word();
-    let s = Signed::from_word(w);
-    s.0
+    Signed::from(u64::from(Signed(z))).0
 }
 
-pub fn pair_round_first(a: u64, b: u64) -> u64
-    ensures { result ≡ a }
+// Parts come back if they fit their table, and others are refused.
+pub fn parts_round(table: Table, parts: Parts) -> Option<Parts>
+    ensures fits { is_some result ≡ parts_fit table parts }
+    ensures back { IfSome result (λ back. back ≡ parts) }
 {
-    Pair::from_words(a, b).first()
-}
-
-pub fn pair_round_second(a: u64, b: u64) -> u64
-    ensures { result ≡ b }
-{
-    Pair::from_words(a, b).second()
-}
-
-// Parts that fit their table.
-pub fn parts_round(table: Table, parts: Parts) -> Parts
-    ensures { parts_fit table parts ≡ true → result ≡ parts }
-{
-    let packing = keys::pack(table, parts);
-    keys::unpack(table, packing.key)
+    let key = keys::pack(table, parts)?;
+    Some(keys::unpack(table, key))
 }
 
 // The other way round: a key with no bit above the total of a table within its limits.
-pub fn mixed_round(table: Table, key: Mixed) -> Mixed
-    ensures { table_fits table ≡ true → well_formed (mixed table) key.0 key.1 ≡ true → (result.0 ≡ key.0) × (result.1 ≡ key.1) }
+pub fn mixed_round(table: Table, key: Mixed) -> Option<Mixed>
+    ensures { table_fits table ≡ true → well_formed (mixed table) key.0 key.1 ≡ true → result ≡ Some key }
 {
-    let packing = keys::pack(table, keys::unpack(table, key));
-    packing.key
+    keys::pack(table, keys::unpack(table, key))
 }

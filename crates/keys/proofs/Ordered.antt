@@ -366,18 +366,18 @@ module _ (t : Table) where
   mixed_unfit e = ap (λ (x : Bool). cond x (table_parts t) two_words) e
 
 -- the masks of two words: every bit is the key's, and none is flipped
-pub masked_words : Masked (record { full0 = 2 ^ 64 - 1; full1 = 2 ^ 64 - 1; flip0 = 0; flip1 = 0 }) two_words
+pub masked_words : Masked (record { full = record { 0 = 2 ^ 64 - 1; 1 = 2 ^ 64 - 1 }; flip = record { 0 = 0; 1 = 0 } }) two_words
 unfolding total form
 masked_words = record { full = refl; flip = refl }
 
-module _ (kind : Kind) (a b : ℕ) (hb : b < 2 ^ 64) (m : Masks) (lf : m.full1 < 2 ^ 64) (lm : m.flip1 < 2 ^ 64) (h : Masked m (mixed_parts kind.table)) (five : kind.number ≡ 5) where
+module _ (kind : Kind) (a b : ℕ) (hb : b < 2 ^ 64) (m : Masks) (lf : m.full.1 < 2 ^ 64) (lm : m.flip.1 < 2 ^ 64) (h : Masked m (mixed_parts kind.table)) (five : kind.number ≡ 5) where
   -- the ordered form, word by word
   pub masked_ordered : masked m a b ≡ ordered kind a b
   unfolding masked
-  masked_ordered = sym (ordered_mixed kind a b five ∙ form_words (mixed_parts kind.table) 64 a b hb m.full0 m.full1 m.flip0 m.flip1 lf lm h.full h.flip)
+  masked_ordered = sym (ordered_mixed kind a b five ∙ form_words (mixed_parts kind.table) 64 a b hb m.full.0 m.full.1 m.flip.0 m.flip.1 lf lm h.full h.flip)
 
   -- a bit above the total makes a key greater than the number with all of its bits set
-  pub masked_holds : not (ltb (pair_form m.full0 m.full1) (pair_form a b)) ≡ well_formed kind a b
+  pub masked_holds : not (ltb (pair_form m.full.0 m.full.1) (pair_form a b)) ≡ well_formed kind a b
   masked_holds =
       let t = total (mixed_parts kind.table) in
       ap (λ (n : ℕ). not (ltb n (pair_form a b))) h.full ∙ up_to (2 ^ t) (pair_form a b) (pow_pos t)

@@ -22,7 +22,7 @@ use Rattle.keys.specs.Packing.{part_fits, parts_fit, used_parts, packed_of, as_p
 use Rattle.keys.proofs.Order.{pair_fits}
 use Rattle.keys.proofs.PartLaws.{Parted, none, some, joined_fits, fields_joined, joined_fields, form_joined}
 use Rattle.keys.proofs.Ordered.{mixed_fit, width_mixed, well_formed_mixed, ordered_mixed}
-use Rattle.keys.proofs.Tables.{Fit, fit, part_bits, total_more, parts_two, parts_three, parts_four, sum_two, sum_three, sum_four, unfit_gap}
+use Rattle.keys.proofs.Tables.{Fit, fit, part_bits, total_more, parts_two, parts_three, parts_four, sum_two, sum_three, sum_four}
 
 -- ---- any list of parts
 -- one more part, below the others
@@ -62,13 +62,10 @@ module _ (t : Table) (h : table_fits t ≡ true) where
   known : Fit t
   known = fit t h
 
-  gap : t.third ≡ 0 → t.fourth ≡ 0
-  gap e = elim (ℕ_discrete t.fourth 0) [ yes p ↦ p | no q ↦ absurd (true≢false (sym h ∙ unfit_gap t known.one known.two e q)) ]
-
   -- two, three or four parts
   pub by_count : {P : Type 0} → (t.third ≡ 0 → t.fourth ≡ 0 → P) → (t.third ≢ 0 → t.fourth ≡ 0 → P) → (t.third ≢ 0 → t.fourth ≢ 0 → P) → P
   by_count two three four = elim (ℕ_discrete t.third 0) [
-    | yes e ↦ two e (gap e)
+    | yes e ↦ two e (known.gap e)
     | no n ↦ elim (ℕ_discrete t.fourth 0) [ yes e ↦ three n e | no m ↦ four n m ]
   ]
 

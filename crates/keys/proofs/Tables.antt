@@ -28,6 +28,18 @@ and_right : (x y : Bool) → (x && y) ≡ true → y ≡ true
 and_right true y e = e
 and_right false y e = absurd (let z : ◌≡◌ {A = ℕ} 0 1 = cc in omega arith)
 
+-- `x && y` as it is computed: y is looked at only if x holds
+pub and_then : {x y v : Bool} → x ≡ true → v ≡ y → v ≡ (x && y)
+and_then {x} {y} {v} e f = f ∙ sym (ap (λ (z : Bool). z && y) e)
+
+pub and_else : {x v : Bool} (y : Bool) → x ≡ false → v ≡ x → v ≡ (x && y)
+and_else {x} {v} y e f = f ∙ e ∙ sym (ap (λ (z : Bool). z && y) e)
+
+pub and_four : (x y z w : Bool) → (x && (y && (z && w))) ≡ (x && y && z && w)
+and_four true true z w = refl
+and_four true false z w = refl
+and_four false y z w = refl
+
 -- ---- one code
 bits_by : (x y z w : Bool) (b : ℕ) → eqb b 8 ≡ x → eqb b 16 ≡ y → eqb b 32 ≡ z → eqb b 64 ≡ w → (x || (y || (z || w))) ≡ true → (8 ≤ b) × (b ≤ 64)
 bits_by true y z w b p q r s e = (omega (arith, eqb-true b 8 p), omega (arith, eqb-true b 8 p))
@@ -68,10 +80,15 @@ unfolding is_part
 by_bits c b l e =
     ap₂ (λ (x : Bool) (n : ℕ). x && (eqb n 8 || (eqb n 16 || (eqb n 32 || eqb n 64)))) (le-leb (c % 8) 2 l) (sym e)
 
+pub part_none : is_part 0 ≡ false
+unfolding is_part
+part_none = refl
+
 -- ---- a table within the limits
 pub record Fit (t : Table) : Type 0 where
   pub one : is_part t.first ≡ true
   pub two : is_part t.second ≡ true
+  pub gap : t.third ≡ 0 → t.fourth ≡ 0
   pub three : t.third ≢ 0 → is_part t.third ≡ true
   pub four : t.third ≢ 0 → t.fourth ≢ 0 → is_part t.fourth ≡ true
   pub sum : total (table_parts t) ≤ 128
@@ -98,6 +115,7 @@ fit t e =
     record {
       one = and_left p q pq;
       two = and_right p q pq;
+      gap = λ z. eqb-true t.fourth 0 (sym (ap (λ (x : Bool). cond x (eqb t.fourth 0) (is_part t.third && (eqb t.fourth 0 || is_part t.fourth))) (eq-eqb t.third 0 z)) ∙ and_right (p && q) r pqr);
       three = λ n. (third n).0;
       four = λ n m. or_right (eqb t.fourth 0) (is_part t.fourth) (ne_eqb t.fourth 0 m) (third n).1;
       sum = leb-true (total (table_parts t)) 128 (and_right (p && q && r) s e);
@@ -141,10 +159,41 @@ module _ (t : Table) where
     | no m ↦ omega (arith, f.sum, sum_four n m)
   ]
 
-  -- the tests of a table in the code's order
-  abbrev third : Bool
+  -- the test of the entries after the second
+  abbrev pub third : Bool
   third = cond (eqb t.third 0) (eqb t.fourth 0) (is_part t.third && (eqb t.fourth 0 || is_part t.fourth))
 
+  third_none : t.third ≡ 0 → third ≡ eqb t.fourth 0
+  third_none e = ap (λ (x : Bool). cond x (eqb t.fourth 0) (is_part t.third && (eqb t.fourth 0 || is_part t.fourth))) (eq-eqb t.third 0 e)
+
+  third_some : t.third ≢ 0 → third ≡ (is_part t.third && (eqb t.fourth 0 || is_part t.fourth))
+  third_some n = ap (λ (x : Bool). cond x (eqb t.fourth 0) (is_part t.third && (eqb t.fourth 0 || is_part t.fourth))) (ne_eqb t.third 0 n)
+
+  no_bits : code_bits 0 ≡ 0
+  unfolding code_bits
+  no_bits = refl
+
+  -- an entry that is not used has no bits, so that all four may be added
+  pub all_bits : third ≡ true → total (table_parts t) ≡ code_bits t.first + code_bits t.second + code_bits t.third + code_bits t.fourth
+  all_bits e = elim (ℕ_discrete t.third 0) [
+    | yes z ↦ (let f : t.fourth ≡ 0 = eqb-true t.fourth 0 (sym (third_none z) ∙ e) in sum_two z ∙ omega (arith, ap code_bits z ∙ no_bits, ap code_bits f ∙ no_bits))
+    | no n ↦ elim (ℕ_discrete t.fourth 0) [
+      | yes f ↦ sum_three n f ∙ omega (arith, ap code_bits f ∙ no_bits)
+      | no m ↦ sum_four n m
+    ]
+  ]
+
+  -- the tests of a table in the code's order
+  pub fits_all : table_fits t ≡ (is_part t.first && is_part t.second && third && leb (code_bits t.first + code_bits t.second + code_bits t.third + code_bits t.fourth) 128)
+  unfolding table_fits
+  fits_all = under (is_part t.first && is_part t.second) third _ _ (λ e. ap (λ (n : ℕ). leb n 128) (all_bits e))
+    where
+      under : (x y z w : Bool) → (y ≡ true → z ≡ w) → (x && y && z) ≡ (x && y && w)
+      under true true z w h = h refl
+      under true false z w h = refl
+      under false y z w h = refl
+
+  -- and in turn, as far as they decide it
   pub unfit_first : is_part t.first ≡ false → table_fits t ≡ false
   unfolding table_fits
   unfit_first e = ap (λ (x : Bool). x && is_part t.second && third && leb (total (table_parts t)) 128) e
@@ -157,12 +206,6 @@ module _ (t : Table) where
     both : table_fits t ≡ (third && leb (total (table_parts t)) 128)
     unfolding table_fits
     both = ap₂ (λ (x y : Bool). x && y && third && leb (total (table_parts t)) 128) one two
-
-    third_none : t.third ≡ 0 → third ≡ eqb t.fourth 0
-    third_none e = ap (λ (x : Bool). cond x (eqb t.fourth 0) (is_part t.third && (eqb t.fourth 0 || is_part t.fourth))) (eq-eqb t.third 0 e)
-
-    third_some : t.third ≢ 0 → third ≡ (is_part t.third && (eqb t.fourth 0 || is_part t.fourth))
-    third_some n = ap (λ (x : Bool). cond x (eqb t.fourth 0) (is_part t.third && (eqb t.fourth 0 || is_part t.fourth))) (ne_eqb t.third 0 n)
 
     pub unfit_gap : t.third ≡ 0 → t.fourth ≢ 0 → table_fits t ≡ false
     unfit_gap e n = both ∙ ap (λ (x : Bool). x && leb (total (table_parts t)) 128) (third_none e ∙ ne_eqb t.fourth 0 n)
@@ -213,13 +256,16 @@ flips_more (q ∷ ps) p =
     flips_cons q (ps ++ p ∷ []) ∙ ap₂ ◌+◌ top (flips_more ps p) ∙ sym (add_assoc (f * 2 ^ total ps * 2 ^ p.bits) (g * 2 ^ p.bits) x) ∙ ap (λ (n : ℕ). n + x) (sym whole)
 
 -- ---- masks
-pub masked_none : Masked (record { full0 = 0; full1 = 0; flip0 = 0; flip1 = 0 }) []
+abbrev pub no_masks : Masks
+no_masks = record { full = record { 0 = 0; 1 = 0 }; flip = record { 0 = 0; 1 = 0 } }
+
+pub masked_none : Masked no_masks []
 unfolding total form
 masked_none = record { full = refl; flip = refl }
 
 pub masked_more : (m r : Masks) (ps : List Part) (c : ℕ) → Masked m ps
-    → pair_form r.full0 r.full1 ≡ pair_form m.full0 m.full1 * 2 ^ code_bits c + (2 ^ code_bits c - 1)
-    → pair_form r.flip0 r.flip1 ≡ pair_form m.flip0 m.flip1 * 2 ^ code_bits c + formed (code_bits c) (code_sort c) 0
+    → pair_form r.full.0 r.full.1 ≡ pair_form m.full.0 m.full.1 * 2 ^ code_bits c + (2 ^ code_bits c - 1)
+    → pair_form r.flip.0 r.flip.1 ≡ pair_form m.flip.0 m.flip.1 * 2 ^ code_bits c + formed (code_bits c) (code_sort c) 0
     → Masked r (ps ++ code_part c ∷ [])
 unfolding code_part
 masked_more m r ps c h full flip = record {
@@ -232,10 +278,10 @@ module _ (m : Masks) (ps : List Part) (b : ℕ) (h : Masked m ps) (l : total ps 
   room : 2 ^ total ps ≤ 2 ^ (128 - b)
   room = pow_mono (omega arith)
 
-  pub full_room : pair_form m.full0 m.full1 < 2 ^ (128 - b)
+  pub full_room : pair_form m.full.0 m.full.1 < 2 ^ (128 - b)
   full_room = omega (arith, room, h.full, pow_pos (total ps))
 
-  pub flip_room : pair_form m.flip0 m.flip1 < 2 ^ (128 - b)
+  pub flip_room : pair_form m.flip.0 m.flip.1 < 2 ^ (128 - b)
   flip_room = omega (arith, room, h.flip, form_fits ps 0)
 
 -- what `shifted` is called with
@@ -249,6 +295,17 @@ ones_under x b c e f = subst (λ n. x < 2 ^ n) f (omega (arith, pow_pos b))
 
 -- ---- a kind
 module _ (kind : Kind) where
+  pub kind_tested : kind.number ≢ 5
+      → kind_fits kind ≡ (leb 1 kind.number && leb kind.number 6 && (eqb kind.table.first 0 && eqb kind.table.second 0 && eqb kind.table.third 0 && eqb kind.table.fourth 0))
+  unfolding kind_fits table_zero
+  kind_tested q = ap (λ (x : Bool). leb 1 kind.number && leb kind.number 6 && cond x (table_fits kind.table) (table_zero kind.table)) (ne_eqb kind.number 5 q)
+
+  pub kind_mixed : kind.number ≡ 5 → kind_fits kind ≡ table_fits kind.table
+  unfolding kind_fits
+  kind_mixed e =
+      ap₂ (λ (x y : Bool). x && y && cond (eqb kind.number 5) (table_fits kind.table) (table_zero kind.table)) (le-leb 1 kind.number (omega arith)) (le-leb kind.number 6 (omega arith))
+      ∙ ap (λ (x : Bool). cond x (table_fits kind.table) (table_zero kind.table)) (eq-eqb kind.number 5 e)
+
   pub kind_none : kind.number ≡ 0 → kind_fits kind ≡ false
   unfolding kind_fits
   kind_none e = ap (λ (x : Bool). x && leb kind.number 6 && cond (eqb kind.number 5) (table_fits kind.table) (table_zero kind.table)) (lt-leb 1 kind.number (omega arith))
@@ -261,9 +318,6 @@ module _ (kind : Kind) where
     kind_rest : kind_fits kind ≡ cond (eqb kind.number 5) (table_fits kind.table) (table_zero kind.table)
     unfolding kind_fits
     kind_rest = ap₂ (λ (x y : Bool). x && y && cond (eqb kind.number 5) (table_fits kind.table) (table_zero kind.table)) (le-leb 1 kind.number (omega arith)) (le-leb kind.number 6 l)
-
-    pub kind_mixed : kind.number ≡ 5 → kind_fits kind ≡ table_fits kind.table
-    kind_mixed e = kind_rest ∙ ap (λ (x : Bool). cond x (table_fits kind.table) (table_zero kind.table)) (eq-eqb kind.number 5 e)
 
     pub kind_other : kind.number ≢ 5 → kind_fits kind ≡ (eqb kind.table.first 0 && eqb kind.table.second 0 && eqb kind.table.third 0 && eqb kind.table.fourth 0)
     unfolding table_zero

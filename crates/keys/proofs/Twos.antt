@@ -3,11 +3,15 @@ use mathlib.Core.Path.{◌≡◌, refl, sym, ◌∙◌, ap, subst}
 use mathlib.Core.Bool.{Bool, true, false, cond}
 use Prim.Native.Nat.{ℕ, suc, ◌+◌, ◌-◌, ◌≤◌, ◌<◌, ◌%◌, ◌^◌}
 use native.Mathlib.Nat.{mod-eq_of_lt, mod-eq-sub-mod, two-pow-succ}
+use native.Mathlib.Decide.{dec_lt}
 use native.Mathlib.Omega.{arith}
 use borrow.Author.Tests.{lt-ltb, le-ltb}
 use lib.Dec.{T, ltb}
 use lib.IntN.{ℤ, pos, negsuc, nat_abs, ◌+ℤ◌, ◌-ℤ◌, sub_ℕ, +ℤ-neg_ℤ_cancel, +ℤ_assoc}
 use lib.Signed.{lt_z, mag}
+use mir.Syntax.{w64}
+use mir.Val.{to_z}
+use mir.Facts.{to_z_pos, to_z-neg}
 use Rattle.keys.proofs.Order.{same_test}
 
 -- ---- words
@@ -65,3 +69,15 @@ module _ (k w : ℕ) (z : ℤ) (e : z +ℤ pos (2 ^ k) ≡ pos ((w + 2 ^ k) % 2 
       ∙ sym (+ℤ_assoc z (pos (2 ^ k)) (pos (2 ^ k)))
       ∙ ap (λ y. y +ℤ pos (2 ^ k)) e
       ∙ ap pos (omega (arith, high_half k w l u))
+
+-- "the number plus 2^63" of the i64 that a word is cast to
+pub cast_moved : (w : ℕ) → w < 2 ^ 64 → to_z w64 w +ℤ pos (2 ^ 63) ≡ pos ((w + 2 ^ 63) % 2 ^ 64)
+cast_moved w u = elim (dec_lt w (2 ^ 63)) [
+  | yes l ↦ ap (λ (z : ℤ). z +ℤ pos (2 ^ 63)) (to_z_pos w64 l) ∙ ap pos (sym (low_half 63 w l))
+  | no q ↦ high (2 ^ 64 - 1 - w) (omega arith) (omega arith)
+]
+  where
+    high : (k : ℕ) → k < 2 ^ 63 → w ≡ 2 ^ 64 - suc k → to_z w64 w +ℤ pos (2 ^ 63) ≡ pos ((w + 2 ^ 63) % 2 ^ 64)
+    high k l e =
+        ap (λ (n : ℕ). to_z w64 n +ℤ pos (2 ^ 63)) e ∙ ap (λ (z : ℤ). z +ℤ pos (2 ^ 63)) (to_z-neg w64 k l) ∙ up (2 ^ 63) k l
+        ∙ ap pos (omega (arith, high_half 63 w (omega arith) u))

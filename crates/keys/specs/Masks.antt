@@ -9,8 +9,8 @@ use Rattle.keys.specs.Table.{mixed_parts}
 use Rattle.keys.specs.Ordered.{pair_form}
 
 pub record Masked (m : Masks) (ps : List Part) : Type 0 where
-  pub full : pair_form m.full0 m.full1 ≡ 2 ^ total ps - 1
-  pub flip : pair_form m.flip0 m.flip1 ≡ form ps 0
+  pub full : pair_form m.full.0 m.full.1 ≡ 2 ^ total ps - 1
+  pub flip : pair_form m.flip.0 m.flip.1 ≡ form ps 0
 
 -- the masks are those of the kind; only kind 5 has a use for them
 pub record Reads (m : Masks) (kind : Kind) : Type 0 where
@@ -18,7 +18,7 @@ pub record Reads (m : Masks) (kind : Kind) : Type 0 where
 
 -- the ordered form of the key with these words, word by word
 unfoldable pub masked : Masks → ℕ → ℕ → ℕ
-masked m a b = pair_form (bit_xor (bit_and a m.full0) m.flip0) (bit_xor (bit_and b m.full1) m.flip1)
+masked m a b = pair_form (bit_xor (bit_and a m.full.0) m.flip.0) (bit_xor (bit_and b m.full.1) m.flip.1)
 
 -- the number of two words may go up by this many places, in two words, with `below` in the places below
 pub record Shifts (high low bits below : ℕ) : Type 0 where

@@ -1,26 +1,30 @@
 // Kind 6: an f64, held as its 64 bits. Minus zero stands just below plus zero.
-ghost use Rattle.std.specs.Prelude.{◌≡◌, ltb};
-ghost use Rattle.rule.specs.Width.{distance};
+ghost use Rattle.std.specs.Prelude.{◌≡◌};
 ghost use Rattle.keys.specs.Floats.{float_form, is_nan};
 
-use crate::word::apart;
+use crate::key::Key;
+use crate::words::apart;
 
-#[derive(Clone, Copy)]
+#[derive(Clone, Copy, PartialEq, Eq, Debug)]
 pub struct Float(pub u64);
 
+impl From<u64> for Float {
+    ghost from_gives = { λ word key. key.0 ≡ word };
+
+    fn from(word: u64) -> Float {
+        Float(word)
+    }
+}
+
+impl From<Float> for u64 {
+    ghost from_gives = { λ key word. word ≡ key.0 };
+
+    fn from(key: Float) -> u64 {
+        key.0
+    }
+}
+
 impl Float {
-    pub fn from_word(w: u64) -> Float
-        ensures { result.0 ≡ w }
-    {
-        Float(w)
-    }
-
-    pub fn word(self) -> u64
-        ensures { result ≡ self.0 }
-    {
-        self.0
-    }
-
     // Without its sign bit, a NaN's pattern is above the infinity's.
     pub fn is_nan(self) -> bool
         ensures { result ≡ is_nan self.0 }
@@ -37,18 +41,20 @@ impl Float {
         }
         18446744073709551615 - self.0
     }
+}
 
-    pub fn above(self, other: Float) -> bool
-        ensures { result ≡ ltb (float_form other.0) (float_form self.0) }
-    {
+impl Key for Float {
+    ghost width = { 64 };
+
+    ghost form = { λ key. float_form key.0 };
+
+    fn above(self, other: Float) -> bool {
         self.form() > other.form()
     }
 
     // The patterns are measured as they are: two of one sign have the same bits flipped in their ordered
     // forms, and two of different signs differ in the highest bit both ways.
-    pub fn distance(self, other: Float) -> u32
-        ensures { result ≡ distance 64 (float_form self.0) (float_form other.0) }
-    {
+    fn distance(self, other: Float) -> u32 {
         apart(self.0, other.0)
     }
 }

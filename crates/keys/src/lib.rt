@@ -9,6 +9,7 @@
 #![tactic(auto)]
 
 mod float_key;
+mod key;
 mod kind;
 mod mask;
 mod mixed_key;
@@ -19,72 +20,58 @@ mod reading;
 mod reversed_key;
 mod signed_key;
 mod table;
-mod word;
+mod words;
 
 ghost use Rattle.std.specs.Prelude.{◌≡◌, ltb};
 ghost use Rattle.rule.specs.Width.{distance as apart};
 ghost use Rattle.keys.specs.Ordered.{is_wide, width, ordered, well_formed, proper};
 
 pub use float_key::Float;
-pub use kind::{Kind, REVERSED, SIGNED, Table, UNSIGNED};
+pub use key::Key;
+pub use kind::{Kind, KindName, REVERSED, SIGNED, Table, UNSIGNED};
 pub use mask::{Masks, kind_masks, table_masks};
 pub use mixed_key::Mixed;
-pub use packing::{Packing, Parts, pack, parts_fit, unpack};
+pub use packing::{Parts, pack, parts_fit, unpack};
 pub use pair_key::Pair;
 pub use plain_key::Plain;
-pub use reading::{
-    above_bare, above_by, distance_bare, distance_by, is_nan, is_proper_by, well_formed_by,
-};
+pub use reading::{Reader, above_bare, distance_bare, is_nan};
 pub use reversed_key::Reversed;
 pub use signed_key::Signed;
 pub use table::kind_fits;
+pub use words::Words;
 
 // Does a key of this kind take two words?
 pub fn is_wide(kind: Kind) -> bool
     ensures { result ≡ is_wide kind }
 {
-    if kind.number == 4 {
-        return true;
-    }
-    kind.number == 5
+    matches!(kind.name(), KindName::Pair | KindName::Mixed)
 }
 
 // Is the first key above the second?
-pub fn above(kind: Kind, a0: u64, a1: u64, b0: u64, b1: u64) -> bool
-    ensures { result ≡ ltb (ordered kind b0 b1) (ordered kind a0 a1) }
+pub fn above(kind: Kind, a: Words, b: Words) -> bool
+    ensures { result ≡ ltb (ordered kind b.first b.second) (ordered kind a.first a.second) }
 {
-    above_by(kind, kind_masks(kind), a0, a1, b0, b1)
+    Reader::of(kind).above(a, b)
 }
 
 // The place of the highest bit, counted from 1, where the ordered forms of two keys differ; 0 if
 // they are equal.
-pub fn distance(kind: Kind, a0: u64, a1: u64, b0: u64, b1: u64) -> u32
-    ensures { result ≡ apart (width kind) (ordered kind a0 a1) (ordered kind b0 b1) }
+pub fn distance(kind: Kind, a: Words, b: Words) -> u32
+    ensures { result ≡ apart (width kind) (ordered kind a.first a.second) (ordered kind b.first b.second) }
 {
-    distance_by(kind, kind_masks(kind), a0, a1, b0, b1)
+    Reader::of(kind).distance(a, b)
 }
 
-// A key of one word has second word 0, and a mixed key no bit above its total: else code 5. Masks are
-// built in kind 5 alone, so that a key of another kind does not pay for them.
-pub fn well_formed(kind: Kind, key0: u64, key1: u64) -> bool
-    ensures { result ≡ well_formed kind key0 key1 }
+// A key of one word has second word 0, and a mixed key no bit above its total: else code 5.
+pub fn well_formed(kind: Kind, key: Words) -> bool
+    ensures { result ≡ well_formed kind key.first key.second }
 {
-    if kind.number == 5 {
-        let table = kind.table;
-        return Mixed::from_words(key0, key1).holds(table_masks(table));
-    }
-    if kind.number == 4 {
-        return true;
-    }
-    key1 == 0
+    Reader::of(kind).well_formed(key)
 }
 
 // A key that may stand in a pool, and as the top: else code 2.
-pub fn is_proper(kind: Kind, key0: u64, key1: u64) -> bool
-    ensures { result ≡ proper kind key0 key1 }
+pub fn is_proper(kind: Kind, key: Words) -> bool
+    ensures { result ≡ proper kind key.first key.second }
 {
-    if !well_formed(kind, key0, key1) {
-        return false;
-    }
-    !is_nan(kind, key0)
+    Reader::of(kind).is_proper(key)
 }

@@ -6,17 +6,15 @@ ghost use Rattle.keys.specs.Table.{code_bits, code_sort, is_part, table_parts, t
 ghost use Rattle.keys.specs.Ordered.{pair_form};
 ghost use Rattle.keys.specs.Masks.{Shifts, Masked, Reads};
 
-use crate::kind::{Kind, Table};
+use crate::kind::{Kind, KindName, REVERSED, SIGNED, Table};
 use crate::pair_key::Pair;
 use crate::table::{bits, table_fits};
 
 // Of a mixed key's two words: the bits that are its own, and those that its ordered form flips.
-#[derive(Clone, Copy)]
+#[derive(Clone, Copy, PartialEq, Eq, Debug)]
 pub struct Masks {
-    pub full0: u64,
-    pub full1: u64,
-    pub flip0: u64,
-    pub flip1: u64,
+    pub full: Pair,
+    pub flip: Pair,
 }
 
 // All of so many low bits set.
@@ -24,7 +22,7 @@ pub fn ones(bits: u64) -> u64
     requires { (1 ≤ bits) × (bits ≤ 64) }
     ensures { result ≡ 2 ^ bits - 1 }
 {
-    18446744073709551615 >> (64 - bits)
+    u64::MAX >> (64 - bits)
 }
 
 // The bits that the ordered form flips in the part with this code.
@@ -33,21 +31,19 @@ fn part_flip(code: u8) -> u64
     ensures { result ≡ formed (code_bits code) (code_sort code) 0 }
 {
     let b = bits(code);
-    let sort = code % 8;
-    if sort == 2 {
-        return ones(b);
+    match code % 8 {
+        REVERSED => ones(b),
+        SIGNED => 1 << (b - 1),
+        _ => 0,
     }
-    if sort == 1 {
-        return 1 << (b - 1);
-    }
-    0
 }
 
 // The number of two words, moved up by so many bits, with `below` under it.
-pub fn shifted(high: u64, low: u64, bits: u64, below: u64) -> Pair
-    requires { Shifts high low bits below }
-    ensures { pair_form result.0 result.1 ≡ pair_form high low * 2 ^ bits + below }
+pub fn shifted(number: Pair, bits: u64, below: u64) -> Pair
+    requires { Shifts number.0 number.1 bits below }
+    ensures { pair_form result.0 result.1 ≡ pair_form number.0 number.1 * 2 ^ bits + below }
 {
+    let Pair(high, low) = number;
     if bits == 64 {
         return Pair(low, below);
     }
@@ -57,19 +53,15 @@ pub fn shifted(high: u64, low: u64, bits: u64, below: u64) -> Pair
 // The masks with one more part, below the others.
 fn with_part(m: Masks, code: u8) -> Masks
     requires code_value { is_part code ≡ true }
-    requires full1_bound { pair_form m.full0 m.full1 < 2 ^ (128 - code_bits code) }
-    requires flip1_bound { pair_form m.flip0 m.flip1 < 2 ^ (128 - code_bits code) }
-    ensures { (pair_form result.full0 result.full1 ≡ pair_form m.full0 m.full1 * 2 ^ code_bits code + (2 ^ code_bits code - 1))
-        × (pair_form result.flip0 result.flip1 ≡ pair_form m.flip0 m.flip1 * 2 ^ code_bits code + formed (code_bits code) (code_sort code) 0) }
+    requires full_bound { pair_form m.full.0 m.full.1 < 2 ^ (128 - code_bits code) }
+    requires flip_bound { pair_form m.flip.0 m.flip.1 < 2 ^ (128 - code_bits code) }
+    ensures full { pair_form result.full.0 result.full.1 ≡ pair_form m.full.0 m.full.1 * 2 ^ code_bits code + (2 ^ code_bits code - 1) }
+    ensures flip { pair_form result.flip.0 result.flip.1 ≡ pair_form m.flip.0 m.flip.1 * 2 ^ code_bits code + formed (code_bits code) (code_sort code) 0 }
 {
     let b = bits(code);
-    let full = shifted(m.full0, m.full1, b, ones(b));
-    let flip = shifted(m.flip0, m.flip1, b, part_flip(code));
     Masks {
-        full0: full.0,
-        full1: full.1,
-        flip0: flip.0,
-        flip1: flip.1,
+        full: shifted(m.full, b, ones(b)),
+        flip: shifted(m.flip, b, part_flip(code)),
     }
 }
 
@@ -79,10 +71,8 @@ fn masks_of(table: Table) -> Masks
     ensures { Masked result (table_parts table) }
 {
     let none = Masks {
-        full0: 0,
-        full1: 0,
-        flip0: 0,
-        flip1: 0,
+        full: Pair(0, 0),
+        flip: Pair(0, 0),
     };
     let one = with_part(none, table.first);
     let two = with_part(one, table.second);
@@ -101,10 +91,8 @@ fn whole_words() -> Masks
     ensures { Masked result two_words }
 {
     Masks {
-        full0: 18446744073709551615,
-        full1: 18446744073709551615,
-        flip0: 0,
-        flip1: 0,
+        full: Pair(u64::MAX, u64::MAX),
+        flip: Pair(0, 0),
     }
 }
 
@@ -122,9 +110,8 @@ pub fn table_masks(table: Table) -> Masks
 pub fn kind_masks(kind: Kind) -> Masks
     ensures { Reads result kind }
 {
-    if kind.number != 5 {
-        return whole_words();
+    match kind.name() {
+        KindName::Mixed => table_masks(kind.table),
+        _ => whole_words(),
     }
-    let table = kind.table;
-    table_masks(table)
 }

@@ -1,5 +1,5 @@
 // A mixed key made from its parts, and its parts read back.
-ghost use Rattle.std.specs.Prelude.{◌≡◌, true, ◌+◌, ◌*◌, ◌-◌, ◌/◌, ◌%◌, ◌^◌, ◌≤◌, ◌<◌};
+ghost use Rattle.std.specs.Prelude.{◌≡◌, true, is_some, IfSome, ◌+◌, ◌*◌, ◌-◌, ◌/◌, ◌%◌, ◌^◌, ◌≤◌, ◌<◌};
 ghost use Rattle.keys.specs.Table.{code_bits, table_fits};
 ghost use Rattle.keys.specs.Ordered.{pair_form};
 ghost use Rattle.keys.specs.Packing.{part_fits, parts_fit, packed_of, parts_of};
@@ -12,7 +12,7 @@ use crate::table::{bits, table_fits};
 
 // The parts of a mixed key as the entries of its table stand, high part first: each a bit pattern of
 // its part's bits, and 0 where the table has no part.
-#[derive(Clone, Copy)]
+#[derive(Clone, Copy, PartialEq, Eq, Debug)]
 pub struct Parts {
     pub first: u64,
     pub second: u64,
@@ -20,41 +20,23 @@ pub struct Parts {
     pub fourth: u64,
 }
 
-// A key, if the parts that were to be packed fit; else it is the key of two zero words.
-#[derive(Clone, Copy)]
-pub struct Packing {
-    pub fits: bool,
-    pub key: Mixed,
-}
-
 // Has the part no bit above those of its code? Where there is no part only 0 fits.
 fn part_fits(code: u8, part: u64) -> bool
     ensures { result ≡ part_fits code part }
 {
     let b = bits(code);
-    if 63 < b {
-        return true;
-    }
-    part < 1 << b
+    63 < b || part < 1 << b
 }
 
 // Is the table within its limits, and does each part fit?
 pub fn parts_fit(table: Table, parts: Parts) -> bool
     ensures { result ≡ parts_fit table parts }
 {
-    if !table_fits(table) {
-        return false;
-    }
-    if !part_fits(table.first, parts.first) {
-        return false;
-    }
-    if !part_fits(table.second, parts.second) {
-        return false;
-    }
-    if !part_fits(table.third, parts.third) {
-        return false;
-    }
-    part_fits(table.fourth, parts.fourth)
+    table_fits(table)
+        && part_fits(table.first, parts.first)
+        && part_fits(table.second, parts.second)
+        && part_fits(table.third, parts.third)
+        && part_fits(table.fourth, parts.fourth)
 }
 
 // The key with one more part, below the others. Where there is no part nothing is added.
@@ -68,8 +50,8 @@ fn with_lowest(key: Mixed, code: u8, part: u64) -> Mixed
     if b == 0 {
         return key;
     }
-    let words = shifted(key.0, key.1, b, part);
-    Mixed(words.0, words.1)
+    let Pair(high, low) = shifted(Pair(key.0, key.1), b, part);
+    Mixed(high, low)
 }
 
 // The key of parts that fit, part by part.
@@ -83,27 +65,23 @@ fn join(table: Table, parts: Parts) -> Mixed
     with_lowest(three, table.fourth, parts.fourth)
 }
 
-// The key with these parts, and whether they fit.
-pub fn pack(table: Table, parts: Parts) -> Packing
-    ensures { (result.fits ≡ parts_fit table parts) × (pair_form result.key.0 result.key.1 ≡ packed_of table parts) }
+// The key with these parts, if they fit.
+pub fn pack(table: Table, parts: Parts) -> Option<Mixed>
+    ensures fits { is_some result ≡ parts_fit table parts }
+    ensures key { IfSome result (λ key. pair_form key.0 key.1 ≡ packed_of table parts) }
 {
     if !parts_fit(table, parts) {
-        return Packing {
-            fits: false,
-            key: Mixed(0, 0),
-        };
+        return None;
     }
-    Packing {
-        fits: true,
-        key: join(table, parts),
-    }
+    Some(join(table, parts))
 }
 
 // The number of two words, moved down by so many bits.
-fn shifted_down(high: u64, low: u64, bits: u64) -> Pair
+fn shifted_down(number: Pair, bits: u64) -> Pair
     requires { (1 ≤ bits) × (bits ≤ 64) }
-    ensures { pair_form result.0 result.1 ≡ pair_form high low / 2 ^ bits }
+    ensures { pair_form result.0 result.1 ≡ pair_form number.0 number.1 / 2 ^ bits }
 {
+    let Pair(high, low) = number;
     if bits == 64 {
         return Pair(0, high);
     }
@@ -131,8 +109,8 @@ fn without_lowest(key: Mixed, code: u8) -> Mixed
     if b == 0 {
         return key;
     }
-    let words = shifted_down(key.0, key.1, b);
-    Mixed(words.0, words.1)
+    let Pair(high, low) = shifted_down(Pair(key.0, key.1), b);
+    Mixed(high, low)
 }
 
 // The parts of a key with a table within its limits, from the lowest up.

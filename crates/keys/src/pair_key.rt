@@ -1,35 +1,38 @@
 // Kind 4: a pair of words. The first words decide, and the second ones where those are equal.
-ghost use Rattle.std.specs.Prelude.{◌≡◌, ltb};
-ghost use Rattle.rule.specs.Width.{distance};
+ghost use Rattle.std.specs.Prelude.{◌≡◌};
 ghost use Rattle.keys.specs.Ordered.{pair_form};
 
-use crate::word::apart;
+use crate::key::Key;
+use crate::words::{Words, apart};
 
-#[derive(Clone, Copy)]
+#[derive(Clone, Copy, PartialEq, Eq, Debug)]
 pub struct Pair(pub u64, pub u64);
 
-impl Pair {
-    pub fn from_words(first: u64, second: u64) -> Pair
-        ensures { (result.0 ≡ first) × (result.1 ≡ second) }
-    {
-        Pair(first, second)
-    }
+impl From<Words> for Pair {
+    ghost from_gives = { λ words key. (key.0 ≡ words.first) × (key.1 ≡ words.second) };
 
-    pub fn first(self) -> u64
-        ensures { result ≡ self.0 }
-    {
-        self.0
+    fn from(words: Words) -> Pair {
+        Pair(words.first, words.second)
     }
+}
 
-    pub fn second(self) -> u64
-        ensures { result ≡ self.1 }
-    {
-        self.1
+impl From<Pair> for Words {
+    ghost from_gives = { λ key words. (words.first ≡ key.0) × (words.second ≡ key.1) };
+
+    fn from(key: Pair) -> Words {
+        Words {
+            first: key.0,
+            second: key.1,
+        }
     }
+}
 
-    pub fn above(self, other: Pair) -> bool
-        ensures { result ≡ ltb (pair_form other.0 other.1) (pair_form self.0 self.1) }
-    {
+impl Key for Pair {
+    ghost width = { 128 };
+
+    ghost form = { λ key. pair_form key.0 key.1 };
+
+    fn above(self, other: Pair) -> bool {
         if self.0 == other.0 {
             return self.1 > other.1;
         }
@@ -38,9 +41,7 @@ impl Pair {
 
     // One count of leading zeros: of the first words' differing bits, or, where those words are equal, of
     // the second words'.
-    pub fn distance(self, other: Pair) -> u32
-        ensures { result ≡ distance 128 (pair_form self.0 self.1) (pair_form other.0 other.1) }
-    {
+    fn distance(self, other: Pair) -> u32 {
         if self.0 == other.0 {
             return apart(self.1, other.1);
         }

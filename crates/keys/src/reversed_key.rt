@@ -1,35 +1,39 @@
 // Kind 3: a reversed number, as a release time. The smaller number is the greater key.
-ghost use Rattle.std.specs.Prelude.{◌≡◌, ltb};
-ghost use Rattle.rule.specs.Width.{distance};
+ghost use Rattle.std.specs.Prelude.{◌≡◌};
 ghost use Rattle.keys.specs.Parts.{reversed, formed};
 
-use crate::word::apart;
+use crate::key::Key;
+use crate::words::apart;
 
-#[derive(Clone, Copy)]
+#[derive(Clone, Copy, PartialEq, Eq, Debug)]
 pub struct Reversed(pub u64);
 
-impl Reversed {
-    pub fn from_word(w: u64) -> Reversed
-        ensures { result.0 ≡ w }
-    {
-        Reversed(w)
-    }
+impl From<u64> for Reversed {
+    ghost from_gives = { λ word key. key.0 ≡ word };
 
-    pub fn word(self) -> u64
-        ensures { result ≡ self.0 }
-    {
-        self.0
+    fn from(word: u64) -> Reversed {
+        Reversed(word)
     }
+}
 
-    pub fn above(self, other: Reversed) -> bool
-        ensures { result ≡ ltb (formed 64 reversed other.0) (formed 64 reversed self.0) }
-    {
+impl From<Reversed> for u64 {
+    ghost from_gives = { λ key word. word ≡ key.0 };
+
+    fn from(key: Reversed) -> u64 {
+        key.0
+    }
+}
+
+impl Key for Reversed {
+    ghost width = { 64 };
+
+    ghost form = { λ key. formed 64 reversed key.0 };
+
+    fn above(self, other: Reversed) -> bool {
         self.0 < other.0
     }
 
-    pub fn distance(self, other: Reversed) -> u32
-        ensures { result ≡ distance 64 (formed 64 reversed self.0) (formed 64 reversed other.0) }
-    {
+    fn distance(self, other: Reversed) -> u32 {
         apart(self.0, other.0)
     }
 }

@@ -1,46 +1,41 @@
 // Kind 2: a signed number, held in a word as its two's complement pattern.
-ghost use Rattle.std.specs.Prelude.{◌≡◌, ◌^◌, ltb, pos, ◌+ℤ◌};
-ghost use Rattle.rule.specs.Width.{distance};
+ghost use Rattle.std.specs.Prelude.{◌≡◌, ◌^◌, pos, ◌+ℤ◌};
 ghost use Rattle.keys.specs.Parts.{signed, formed};
 ghost use Rattle.keys.specs.Ordered.{ordered_number};
 
-use crate::word::apart;
+use crate::key::Key;
+use crate::words::apart;
 
-#[derive(Clone, Copy)]
+#[derive(Clone, Copy, PartialEq, Eq, PartialOrd, Ord, Debug)]
 pub struct Signed(pub i64);
 
-impl Signed {
-    // "The number plus 2^63" is the ordered form of the word.
-    pub fn from_word(w: u64) -> Signed
-        ensures { result.0 +ℤ pos (2 ^ 63) ≡ pos (formed 64 signed w) }
-    {
-        if w < 9223372036854775808 {
-            Signed(w as i64)
-        } else {
-            Signed((w - 9223372036854775808) as i64 + (-9223372036854775808))
-        }
-    }
+// "The number plus 2^63" is the ordered form of the word.
+impl From<u64> for Signed {
+    ghost from_gives = { λ word key. key.0 +ℤ pos (2 ^ 63) ≡ pos (formed 64 signed word) };
 
-    pub fn word(self) -> u64
-        ensures { self.0 +ℤ pos (2 ^ 63) ≡ pos (formed 64 signed result) }
-    {
-        let z = self.0;
-        if z < 0 {
-            (z - (-9223372036854775808)) as u64 + 9223372036854775808
-        } else {
-            z as u64
-        }
+    fn from(word: u64) -> Signed {
+        Signed(word.cast_signed())
     }
+}
 
-    pub fn above(self, other: Signed) -> bool
-        ensures { result ≡ ltb (ordered_number other.0) (ordered_number self.0) }
-    {
+impl From<Signed> for u64 {
+    ghost from_gives = { λ key word. key.0 +ℤ pos (2 ^ 63) ≡ pos (formed 64 signed word) };
+
+    fn from(key: Signed) -> u64 {
+        key.0.cast_unsigned()
+    }
+}
+
+impl Key for Signed {
+    ghost width = { 64 };
+
+    ghost form = { λ key. ordered_number key.0 };
+
+    fn above(self, other: Signed) -> bool {
         self.0 > other.0
     }
 
-    pub fn distance(self, other: Signed) -> u32
-        ensures { result ≡ distance 64 (ordered_number self.0) (ordered_number other.0) }
-    {
-        apart(self.word(), other.word())
+    fn distance(self, other: Signed) -> u32 {
+        apart(u64::from(self), u64::from(other))
     }
 }

@@ -1,8 +1,8 @@
 // The table of a mixed key, and its limits.
-ghost use Rattle.std.specs.Prelude.{◌≡◌, ◌<◌};
+ghost use Rattle.std.specs.Prelude.{◌≡◌, cond, ◌&&◌, ◌||◌, ◌+◌, ◌<◌, eqb, leb};
 ghost use Rattle.keys.specs.Table.{code_bits, is_part, table_fits, kind_fits};
 
-use crate::kind::{Kind, Table};
+use crate::kind::{Kind, KindName, Table};
 
 // How many bits the part with this code has.
 pub fn bits(code: u8) -> u64
@@ -15,74 +15,49 @@ pub fn bits(code: u8) -> u64
 fn is_part(code: u8) -> bool
     ensures { result ≡ is_part code }
 {
-    if 2 < code % 8 {
-        return false;
+    code % 8 <= 2 && matches!(bits(code), 8 | 16 | 32 | 64)
+}
+
+// The entries after the second: the used ones stand first.
+fn later_fit(third: u8, fourth: u8) -> bool
+    ensures { result ≡ cond (eqb third 0) (eqb fourth 0) (is_part third && (eqb fourth 0 || is_part fourth)) }
+{
+    if fourth == 0 {
+        return third == 0 || is_part(third);
     }
-    let b = bits(code);
-    if b == 8 {
-        return true;
-    }
-    if b == 16 {
-        return true;
-    }
-    if b == 32 {
-        return true;
-    }
-    b == 64
+    is_part(third) && is_part(fourth)
+}
+
+// The bits of all entries. One that is not used has none.
+fn total(table: Table) -> u64
+    ensures { result ≡ code_bits table.first + code_bits table.second + code_bits table.third + code_bits table.fourth }
+{
+    bits(table.first) + bits(table.second) + bits(table.third) + bits(table.fourth)
 }
 
 // Two to four parts, the used entries first, of 128 bits together at most.
 pub fn table_fits(table: Table) -> bool
     ensures { result ≡ table_fits table }
 {
-    if !is_part(table.first) {
-        return false;
-    }
-    if !is_part(table.second) {
-        return false;
-    }
-    let two = bits(table.first) + bits(table.second);
-    if table.third == 0 {
-        if table.fourth != 0 {
-            return false;
-        }
-        return two <= 128;
-    }
-    if !is_part(table.third) {
-        return false;
-    }
-    let three = two + bits(table.third);
-    if table.fourth == 0 {
-        return three <= 128;
-    }
-    if !is_part(table.fourth) {
-        return false;
-    }
-    three + bits(table.fourth) <= 128
+    is_part(table.first)
+        && is_part(table.second)
+        && later_fit(table.third, table.fourth)
+        && total(table) <= 128
+}
+
+// Is there a kind with this number?
+fn is_known(number: u32) -> bool
+    ensures { result ≡ (leb 1 number && leb number 6) }
+{
+    1 <= number && number <= 6
 }
 
 // A kind that a heap may have: 1 to 6, with a table in kind 5 and none in any other.
 pub fn kind_fits(kind: Kind) -> bool
     ensures { result ≡ kind_fits kind }
 {
-    let table = kind.table;
-    if kind.number == 0 {
-        return false;
+    match kind.name() {
+        KindName::Mixed => table_fits(kind.table),
+        _ => is_known(kind.number) && kind.table == Table::of(0, 0, 0, 0),
     }
-    if 6 < kind.number {
-        return false;
-    }
-    if kind.number == 5 {
-        return table_fits(table);
-    }
-    if table.first != 0 {
-        return false;
-    }
-    if table.second != 0 {
-        return false;
-    }
-    if table.third != 0 {
-        return false;
-    }
-    table.fourth == 0
 }

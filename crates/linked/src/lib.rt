@@ -15,7 +15,7 @@ ghost use Rattle.batch.specs.Batch.{batched, batch};
 ghost use Rattle.linked.specs.Parts.{kind_of, head_of};
 
 use keys::{Kind, Table};
-use pool::{Head, State};
+use pool::{Head, Pool, State, View};
 
 // `heap::new`. Gives the code.
 #[unsafe(no_mangle)]
@@ -38,33 +38,17 @@ pub extern "C" fn gaissomet_new(
 ) -> u8
     ensures { answered result (world (head_of kind.new table.new len.new topped.new top0.new top1.new) (links first.new last.new next.new back.new busy.new) keys.new values.new) 0 false 0 0 0 0 ≡ made (kind_of wanted codes.now) keys.old values.old next.old back.old }
 {
-    let asked = Kind {
-        number: wanted,
-        table: Table {
-            first: codes[0],
-            second: codes[1],
-            third: codes[2],
-            fourth: codes[3],
-        },
+    let mut pool = Pool {
+        keys,
+        values,
+        next,
+        back,
     };
-    let h = heap::new(asked, keys, values, next, back);
-    let s = h.state;
-    let head = s.head;
-    let k = head.kind;
-    let t = k.table;
-    *kind = k.number;
-    *table = [t.first, t.second, t.third, t.fourth];
-    *len = head.len;
-    *topped = head.topped;
-    *top0 = head.top0;
-    *top1 = head.top1;
-    let f = s.first;
-    let l = s.last;
-    let w = s.busy;
-    *first = f;
-    *last = l;
-    *busy = w;
-    h.code
+    let made = heap::new(kind_of(wanted, *codes), &mut pool);
+    hand_back(
+        made.state, kind, table, len, topped, top0, top1, first, last, busy,
+    );
+    pool::code(made.told)
 }
 
 // `batch::run`. Gives the code of the batch as a whole; `count` is how many records were answered.
@@ -92,25 +76,18 @@ pub extern "C" fn gaissomet_batch(
     let state = whole(
         *kind, *table, *len, *topped, *top0, *top1, *first, *last, *busy,
     );
-    let b = batch::run(state, keys, values, next, back, records, answers);
-    let s = b.state;
-    let head = s.head;
-    let k = head.kind;
-    let t = k.table;
-    *kind = k.number;
-    *table = [t.first, t.second, t.third, t.fourth];
-    *len = head.len;
-    *topped = head.topped;
-    *top0 = head.top0;
-    *top1 = head.top1;
-    let f = s.first;
-    let l = s.last;
-    let w = s.busy;
-    *first = f;
-    *last = l;
-    *busy = w;
-    *count = b.count;
-    b.code
+    let mut pool = Pool {
+        keys,
+        values,
+        next,
+        back,
+    };
+    let ran = batch::run(state, &mut pool, records, answers);
+    hand_back(
+        ran.state, kind, table, len, topped, top0, top1, first, last, busy,
+    );
+    *count = ran.told.unwrap_or(0);
+    pool::code(ran.told)
 }
 
 // `pool::examine`. Gives the code.
@@ -133,7 +110,22 @@ pub extern "C" fn gaissomet_examine(
     ensures { result ≡ examined (world (head_of kind table.now len topped top0 top1) (links first.now last.now next.now back.now busy.now) keys.now values.now) }
 {
     let state = whole(kind, *table, len, topped, top0, top1, *first, *last, *busy);
-    pool::examine(state, keys, values, next, back)
+    let view = View {
+        keys,
+        values,
+        next,
+        back,
+    };
+    pool::code(pool::examine(&state, view))
+}
+
+fn kind_of(number: u32, codes: [u8; 4]) -> Kind
+    ensures { result ≡ kind_of number codes }
+{
+    Kind {
+        number,
+        table: Table::of(codes[0], codes[1], codes[2], codes[3]),
+    }
 }
 
 // The state of these parts.
@@ -151,15 +143,7 @@ fn whole(
     ensures { result ≡ record { head = head_of kind table len topped top0 top1; first = first; last = last; busy = busy } }
 {
     let head = Head {
-        kind: Kind {
-            number: kind,
-            table: Table {
-                first: table[0],
-                second: table[1],
-                third: table[2],
-                fourth: table[3],
-            },
-        },
+        kind: kind_of(kind, table),
         len,
         topped,
         top0,
@@ -171,4 +155,40 @@ fn whole(
         last,
         busy,
     }
+}
+
+// The state in its parts again.
+fn hand_back(
+    state: State,
+    kind: &mut u32,
+    table: &mut [u8; 4],
+    len: &mut u32,
+    topped: &mut bool,
+    top0: &mut u64,
+    top1: &mut u64,
+    first: &mut [u32; 131],
+    last: &mut [u32; 131],
+    busy: &mut [u64; 3],
+)
+    ensures head { head_of kind.new table.new len.new topped.new top0.new top1.new ≡ state.head }
+    ensures first { first.new ≡ state.first }
+    ensures last { last.new ≡ state.last }
+    ensures busy { busy.new ≡ state.busy }
+{
+    let State {
+        head,
+        first: firsts,
+        last: lasts,
+        busy: bits,
+    } = state;
+    let codes = head.kind.table;
+    *kind = head.kind.number;
+    *table = [codes.first, codes.second, codes.third, codes.fourth];
+    *len = head.len;
+    *topped = head.topped;
+    *top0 = head.top0;
+    *top1 = head.top1;
+    *first = firsts;
+    *last = lasts;
+    *busy = bits;
 }

@@ -6,24 +6,24 @@
 #![tactic(auto)]
 
 use keys::{Kind, Table};
+use pool::Refusal;
 
-fn serve_first(input: &[u8], got: usize) {
-    if input.len() < got {
+fn serve_all(input: &[u8]) {
+    let Some((head, records)) = input.split_first_chunk::<12>() else {
+        gateway::tell(Refusal::Ragged);
         return;
-    }
-    if got < 12 {
-        gateway::tell(pool::RAGGED);
-        return;
-    }
-    let number = gateway::small(input[0], input[1], input[2], input[3]);
-    let table = Table::of(input[4], input[5], input[6], input[7]);
-    let kind = Kind { number, table };
-    let n = gateway::small(input[8], input[9], input[10], input[11]);
-    gateway::serve_slots(kind, n as usize, &input[12..got]);
+    };
+    let [k0, k1, k2, k3, t0, t1, t2, t3, n0, n1, n2, n3] = *head;
+    let kind = Kind {
+        number: gateway::small([k0, k1, k2, k3]),
+        table: Table::of(t0, t1, t2, t3),
+    };
+    let slots = gateway::small([n0, n1, n2, n3]);
+    gateway::serve_slots(kind, slots as usize, records);
 }
 
 fn main() {
     let mut input = [0; 65548];
     let got = io::read_full(0, &mut input);
-    serve_first(&input, got);
+    serve_all(&input[..got]);
 }

@@ -1,177 +1,84 @@
-// A desk with room for eight jobs: a heap's state and pool, by value. Each call is handed on to the heap
-// and gives the desk as it is then. A pop prints its job; the others print what is refused.
-use crate::job::{print, print_key};
-use heap::Given;
-use keys::{Kind, Mixed, Packing, Table};
-use pool::State;
+// A desk with room for eight jobs: a heap's state, and the arrays that it lends to each call as a pool.
+use crate::job::Job;
+use keys::{Kind, Mixed, Table, Words};
+use pool::{Answer, Pool, Refusal, State};
 
 // A mixed key takes two words in the pool, so that eight slots have sixteen.
 #[derive(Clone, Copy)]
+struct Slots {
+    keys: [u64; 16],
+    values: [u64; 8],
+    next: [u32; 8],
+    back: [u32; 8],
+}
+
+impl Slots {
+    fn lend(&mut self) -> Pool<'_> {
+        let Slots {
+            keys,
+            values,
+            next,
+            back,
+        } = self;
+        Pool {
+            keys,
+            values,
+            next,
+            back,
+        }
+    }
+}
+
+#[derive(Clone, Copy)]
 pub struct Desk {
-    pub state: State,
-    pub keys: [u64; 16],
-    pub values: [u64; 8],
-    pub next: [u32; 8],
-    pub back: [u32; 8],
-}
-
-fn print_code(code: u8) {
-    if code != 0 {
-        print(b"  refused, code ", code as u64);
-        io::write_all(1, b"\n");
-    }
-}
-
-fn print_refused(key: Mixed, job: u64, code: u8) {
-    if code == 0 {
-        return;
-    }
-    if code == pool::MALFORMED {
-        print(b"  words ", key.first());
-        print(b" and ", key.second());
-    } else {
-        print_key(key);
-    }
-    print(b": job ", job);
-    print(b" refused, code ", code as u64);
-    io::write_all(1, b"\n");
-}
-
-fn print_popped(code: u8, given: Given) {
-    match given {
-        Given::Nothing => {
-            print(b"  no job, code ", code as u64);
-            io::write_all(1, b"\n");
-        }
-        Given::Entry { key0, key1, value } => {
-            print_key(Mixed::from_words(key0, key1));
-            print(b": job ", value);
-            io::write_all(1, b"\n");
-        }
-    }
+    state: State,
+    slots: Slots,
 }
 
 impl Desk {
     // No jobs, and any job may come.
-    pub fn open(table: Table) -> Desk {
-        let mut keys = [0; 16];
-        let mut values = [0; 8];
-        let mut next = [0; 8];
-        let mut back = [0; 8];
-        let r = heap::new(
-            Kind::mixed(table),
-            &mut keys,
-            &mut values,
-            &mut next,
-            &mut back,
-        );
-        print_code(r.code);
-        let state = r.state;
-        Desk {
-            state,
-            keys,
-            values,
-            next,
-            back,
-        }
+    pub fn open(table: Table) -> Result<Desk, Refusal> {
+        let mut slots = Slots {
+            keys: [0; 16],
+            values: [0; 8],
+            next: [0; 8],
+            back: [0; 8],
+        };
+        let Answer { told, state } = heap::new(Kind::mixed(table), &mut slots.lend());
+        told?;
+        Ok(Desk { state, slots })
     }
 
-    // A job, if the parts of its key fit. Else there is no key to push.
-    pub fn push(self, packing: Packing, job: u64) -> Desk {
-        if !packing.fits {
-            print(b"  job ", job);
-            io::write_all(1, b": a part does not fit\n");
-            return self;
-        }
-        self.push_key(packing.key, job)
+    // The desk keeps the state that a call gives, and hands on what the call was told.
+    fn kept<T>(&mut self, answer: Answer<T, Refusal>) -> Result<T, Refusal> {
+        let Answer { told, state } = answer;
+        self.state = state;
+        told
     }
 
-    pub fn push_key(self, key: Mixed, job: u64) -> Desk {
-        let mut keys = self.keys;
-        let mut values = self.values;
-        let mut next = self.next;
-        let mut back = self.back;
-        let r = heap::push(
-            self.state,
-            &mut keys,
-            &mut values,
-            &mut next,
-            &mut back,
-            key.first(),
-            key.second(),
-            job,
-        );
-        print_refused(key, job, r.code);
-        let state = r.state;
-        Desk {
-            state,
-            keys,
-            values,
-            next,
-            back,
-        }
+    pub fn push(&mut self, key: Mixed, number: u64) -> Result<(), Refusal> {
+        let mut pool = self.slots.lend();
+        let answer = heap::push(self.state, &mut pool, Words::from(key), number);
+        self.kept(answer)
     }
 
     // Takes the job with the greatest key.
-    pub fn pop(self) -> Desk {
-        let mut keys = self.keys;
-        let mut values = self.values;
-        let mut next = self.next;
-        let mut back = self.back;
-        let r = heap::pop(self.state, &mut keys, &mut values, &mut next, &mut back);
-        let given = r.given;
-        print_popped(r.code, given);
-        let state = r.state;
-        Desk {
-            state,
-            keys,
-            values,
-            next,
-            back,
-        }
+    pub fn pop(&mut self) -> Result<Job, Refusal> {
+        let answer = heap::pop(self.state, &mut self.slots.lend());
+        let entry = self.kept(answer)?.entry;
+        Ok(Job::read(entry.value, Mixed::from(entry.key)))
     }
 
     // Drops every job and forgets what was taken.
-    pub fn clear(self) -> Desk {
-        let mut keys = self.keys;
-        let mut values = self.values;
-        let mut next = self.next;
-        let mut back = self.back;
-        let r = heap::clear(self.state, &mut keys, &mut values, &mut next, &mut back);
-        print_code(r.code);
-        let state = r.state;
-        Desk {
-            state,
-            keys,
-            values,
-            next,
-            back,
-        }
+    pub fn clear(&mut self) -> Result<u32, Refusal> {
+        let answer = heap::clear(self.state, &mut self.slots.lend());
+        self.kept(answer)
     }
 
     // Drops every job; no key above this one will be taken.
-    pub fn clear_to(self, key: Mixed) -> Desk {
-        let mut keys = self.keys;
-        let mut values = self.values;
-        let mut next = self.next;
-        let mut back = self.back;
-        let r = heap::clear_to(
-            self.state,
-            &mut keys,
-            &mut values,
-            &mut next,
-            &mut back,
-            key.first(),
-            key.second(),
-        );
-        print_code(r.code);
-        let state = r.state;
-        Desk {
-            state,
-            keys,
-            values,
-            next,
-            back,
-        }
+    pub fn clear_to(&mut self, key: Mixed) -> Result<u32, Refusal> {
+        let mut pool = self.slots.lend();
+        let answer = heap::clear_to(self.state, &mut pool, Words::from(key));
+        self.kept(answer)
     }
 }

@@ -1,19 +1,20 @@
 -- The code of the examination against its definitions: laws on plain values, which the proofs of its functions apply.
 use mathlib.Core.Path.{◌≡◌, refl, sym, ap, ap₂, ◌∙◌}
-use mathlib.Core.Bool.{Bool, true, false, ◌&&◌, ◌||◌, and-false, and_comm, or-true}
+use mathlib.Core.Bool.{Bool, true, false, cond, ◌&&◌, ◌||◌, and-false, and-true, and_comm, or-true}
 use mathlib.Core.Logic.{◌≢◌, ◌⊎◌, ⊎_elim}
 use mathlib.Core.List.{List, [], ◌∷◌}
 use Prim.Native.Nat.{ℕ, zero, suc, ◌+◌, ◌-◌, ◌*◌, ◌^◌, ◌≤◌, ◌<◌, zero-le}
-use native.Mathlib.Nat.{le_refl, le_trans}
+use native.Mathlib.Nat.{le_refl, le_trans, sub-zero}
 use native.Mathlib.Omega.{arith}
 use native.Mathlib.Numerals.{add-one, sub-one}
 use native.Mathlib.Decide.{ℕ_discrete}
 use borrow.Author.Tests.{eq-eqb, ne_eqb, le-leb, lt-leb, lt-ltb, le-ltb, ltb-true, ltb-false}
 use lib.Dec.{leb, ltb, eqb}
 use lib.ListN.{length, get_or, take}
+use lib.Pointwise.{pointwise}
 use Rattle.rule.specs.Width.{distance}
 use Rattle.keys.specs.declared.kind.Kind.{Kind}
-use Rattle.keys.specs.Ordered.{width, words, proper}
+use Rattle.keys.specs.Ordered.{width, words, ordered, proper}
 use Rattle.keys.specs.Table.{kind_fits}
 use Rattle.pool.specs.declared.state.Head.{Head}
 use Rattle.pool.specs.World.{waiting_chain, free_chain, Links, World, size, first_of, last_of, key_word0, key_word1, slot_key, top_of, place, within}
@@ -47,9 +48,6 @@ fits_order kind keys values next back = swap (kind_fits kind) (eqb keys (words k
 pub headed_order : (h : Head) → headed h ≡ (proper h.kind h.top0 h.top1 && (h.topped || (eqb h.top0 0 && eqb h.top1 0)))
 unfolding headed
 headed_order h = and_comm (h.topped || (eqb h.top0 0 && eqb h.top1 0)) (proper h.kind h.top0 h.top1)
-
-pub headed_bare : (h : Head) → proper h.kind h.top0 h.top1 ≡ true → h.topped ≡ false → h.top0 ≡ 0 → headed h ≡ eqb h.top1 0
-headed_bare h p q e = headed_order h ∙ rw (p, q, eq-eqb h.top0 0 e)
 
 -- ---- one slot
 
@@ -92,6 +90,18 @@ module _ (h : Head) (keys back : List ℕ) (c p s : ℕ) where
       pub stands_home : ltb (top_of h) key ≡ false → {d : ℕ} → d ≡ distance (width h.kind) key (top_of h) → stands_at h keys back c p s ≡ eqb c d
       stands_home u {d} ed = stands_topped ∙ rw (le-leb key (top_of h) (ltb-false _ _ u), ← ed) (eqb_sym d c)
 
+-- the words of the slot's key and of the top that the calls gave, read in the kind that the reader has
+module _ {kind kind' : Kind} {a a' b b' : ℕ} (k : kind' ≡ kind) (e : a ≡ a') (f : b ≡ b') where
+  pub proper_read : {q : Bool} → q ≡ proper kind' a b → proper kind a' b' ≡ q
+  proper_read g = cc
+
+  module _ {x x' y y' : ℕ} (u : x ≡ x') (v : y ≡ y') where
+    pub above_read : {q : Bool} → q ≡ ltb (ordered kind' x y) (ordered kind' a b) → ltb (ordered kind x' y') (ordered kind a' b') ≡ q
+    above_read g = cc
+
+    pub far_read : {d : ℕ} → d ≡ distance (width kind') (ordered kind' a b) (ordered kind' x y) → d ≡ distance (width kind) (ordered kind a' b') (ordered kind x' y')
+    far_read g = cc
+
 pub empty_rest : (kind : Kind) (keys values back : List ℕ) (s : ℕ) → get_or back s 0 ≡ 0 → key_word0 kind keys s ≡ 0 → key_word1 kind keys s ≡ 0
     → empty_at kind keys values back s ≡ eqb (get_or values s 0) 0
 unfolding empty_at
@@ -99,23 +109,13 @@ empty_rest kind keys values back s e f g = rw (e, f, g)
 
 -- ---- one step of a walk
 
-module _ (h : Head) (k : Links) (keys : List ℕ) (c p s : ℕ) where
-  pub busy_out : length k.next ≤ s → ok_busy h k keys c p s ≡ false
-  unfolding ok_busy
-  busy_out l = rw (le-ltb s (length k.next) l)
+-- past the slots it is refused, else the test of the chain decides
+module _ (stands : ℕ → ℕ → Bool) (n p s : ℕ) where
+  pub step_out : n ≤ s → (ltb s n && stands p s) ≡ false
+  step_out l = rw (le-ltb s n l)
 
-  pub busy_in : s < length k.next → {b : Bool} → b ≡ stands_at h keys k.back c p s → ok_busy h k keys c p s ≡ b
-  unfolding ok_busy
-  busy_in l e = rw (lt-ltb s (length k.next) l) (sym e)
-
-module _ (kind : Kind) (k : Links) (keys values : List ℕ) (p s : ℕ) where
-  pub free_out : length k.next ≤ s → ok_free kind k keys values p s ≡ false
-  unfolding ok_free
-  free_out l = rw (le-ltb s (length k.next) l)
-
-  pub free_in : s < length k.next → {b : Bool} → b ≡ empty_at kind keys values k.back s → ok_free kind k keys values p s ≡ b
-  unfolding ok_free
-  free_in l e = rw (lt-ltb s (length k.next) l) (sym e)
+  pub step_in : s < n → {b : Bool} → b ≡ stands p s → (ltb s n && stands p s) ≡ b
+  step_in l e = rw (lt-ltb s n l) (sym e)
 
 -- ---- a walk
 
@@ -161,8 +161,8 @@ module _ {ok : ℕ → ℕ → Bool} {next : List ℕ} {end budget start left p 
   pub turn_astray : at ≡ 0 → (p ≡ end → ⊥) → verify ok next end budget 0 start ≡ 0
   turn_astray z e = t.same ∙ verify_stop ok next end left p at z ∙ rw (ne_eqb p end e)
 
-  pub turn_ends : at ≡ 0 → p ≡ end → verify ok next end budget 0 start ≡ left + 1
-  turn_ends z e = t.same ∙ verify_stop ok next end left p at z ∙ rw (eq-eqb p end e)
+  pub turn_ends : at ≡ 0 → p ≡ end → verify ok next end budget 0 start ≡ suc left
+  turn_ends z e = t.same ∙ verify_stop ok next end left p at z ∙ rw (eq-eqb p end e, add-one)
 
 -- ---- every chain but the free one
 
@@ -213,6 +213,10 @@ gate_le : (b : Bool) (r : ℕ) → gate b r ≤ r
 gate_le true r = le_refl r
 gate_le false r = zero-le
 
+gate_none : (b : Bool) → gate b 0 ≡ 0
+gate_none true = refl
+gate_none false = refl
+
 module _ (h : Head) (k : Links) (keys : List ℕ) where
   -- a chain, and a scan, give back no more than they had
   busy_le : (c left : ℕ) → verify_busy h k keys c left ≤ left + 1
@@ -232,72 +236,91 @@ module _ (h : Head) (k : Links) (keys : List ℕ) where
   scan_none zero c left e = e
   scan_none (suc m) c left e = rw e
 
-  scan_step : (m c left : ℕ) → c < m → (left ≡ 0 → ⊥) → scan h k keys (m - c) c left ≡ scan h k keys (m - (c + 1)) (c + 1) (verify_busy h k keys c (left - 1))
+  scan_step : (m c left : ℕ) → c < m → scan h k keys (m - c) c (suc left) ≡ scan h k keys (m - (c + 1)) (c + 1) (verify_busy h k keys c left)
   unfolding scan
-  scan_step m c zero l z = absurd (z refl)
-  scan_step m c (suc left) l z = let e : m - c ≡ suc (m - (c + 1)) = omega arith in rw e (simp (add-one, sub-one))
+  scan_step m c left l = let e : m - c ≡ suc (m - (c + 1)) = omega arith in rw e (simp add-one)
 
 -- what is left of a scan of m chains is the whole of it, and these are the busy words of the chains before
 pub record Scan (h : Head) (k : Links) (keys : List ℕ) (m left c : ℕ) (words : List ℕ) : Type 0 where
-  pub few : left ≤ length k.next + 1
+  pub few : left ≤ length k.next
   pub past : c ≤ m
-  pub same : scan h k keys m 0 (suc (length k.next)) ≡ scan h k keys (m - c) c left
-  pub seen : left ≢ 0 → words ≡ summary (take c k.first)
+  pub same : scan h k keys m 0 (suc (length k.next)) ≡ scan h k keys (m - c) c (suc left)
+  pub seen : words ≡ summary (take c k.first)
 
-pub seen_start : (first : List ℕ) → 0 ∷ 0 ∷ 0 ∷ [] ≡ summary (take 0 first)
-seen_start first = summary_none (take 0 first) (λ c l. refl)
+pub scan_start : (h : Head) (k : Links) (keys : List ℕ) (m : ℕ) → Scan h k keys m (length k.next) 0 (0 ∷ 0 ∷ 0 ∷ [])
+scan_start h k keys m = record { few = le_refl (length k.next); past = zero-le; same = simp sub-zero; seen = summary_none (take 0 k.first) (λ c l. refl) }
 
 module _ {h : Head} {k : Links} {keys : List ℕ} {m left c : ℕ} {words : List ℕ} (t : Scan h k keys m left c words) where
-  pub scan_over : m ≤ c → scan h k keys m 0 (suc (length k.next)) ≡ left
+  pub scan_over : m ≤ c → scan h k keys m 0 (suc (length k.next)) ≡ suc left
   unfolding scan
   scan_over l = let e : m - c ≡ 0 = omega arith in t.same ∙ rw e
 
-  pub scan_refused : left ≡ 0 → scan h k keys m 0 (suc (length k.next)) ≡ 0
-  scan_refused e = t.same ∙ scan_none h k keys (m - c) c left e
+  module _ (l : c < m) where
+    scan_stops : verify_busy h k keys c left ≡ 0 → scan h k keys m 0 (suc (length k.next)) ≡ 0
+    scan_stops e = t.same ∙ scan_step h k keys m c left l ∙ scan_none h k keys (m - (c + 1)) (c + 1) (verify_busy h k keys c left) e
 
-  module _ (l : c < m) (z : left ≡ 0 → ⊥) where
     pub scan_shared : (get_or k.last c 0 ≡ 0 → ⊥) → get_or k.last c 0 ≡ get_or k.last free_chain 0 → scan h k keys m 0 (suc (length k.next)) ≡ 0
     unfolding verify_busy
-    scan_shared n e = t.same ∙ scan_step h k keys m c left l z ∙ scan_none h k keys (m - (c + 1)) (c + 1) (verify_busy h k keys c (left - 1)) (rw (apart_shared k c n e))
+    scan_shared n e = scan_stops (rw (apart_shared k c n e))
+
+    pub scan_refused : 0 ≡ verify (ok_busy h k keys c) k.next (get_or k.last c 0) left 0 (get_or k.first c 0) → scan h k keys m 0 (suc (length k.next)) ≡ 0
+    unfolding verify_busy
+    scan_refused e = scan_stops (ap (gate (apart k c)) (sym e) ∙ gate_none (apart k c))
 
     -- the chain's bit is set, if it has a last link
-    module _ {r : ℕ} (e : r ≡ verify (ok_busy h k keys c) k.next (get_or k.last c 0) (left - 1) 0 (get_or k.first c 0)) where
-      seen_on : {words' : List ℕ} → get_or k.last c 0 ≢ 0 → words' ≡ marked words c → r ≢ 0 → words' ≡ summary (take (c + 1) k.first)
-      seen_on n w p =
-          w ∙ ap (λ (x : List ℕ). marked x c) (t.seen z) ∙ seen_some k.first c (starts (ok_busy h k keys c) k.next (get_or k.last c 0) (left - 1) (get_or k.first c 0) (λ q. p (e ∙ q)) n)
+    module _ {r : ℕ} (e : suc r ≡ verify (ok_busy h k keys c) k.next (get_or k.last c 0) left 0 (get_or k.first c 0)) where
+      passed : verify (ok_busy h k keys c) k.next (get_or k.last c 0) left 0 (get_or k.first c 0) ≢ 0
+      passed q = absurd (omega (arith, e, q))
 
-      seen_off : get_or k.last c 0 ≡ 0 → r ≢ 0 → words ≡ summary (take (c + 1) k.first)
-      seen_off n p = t.seen z ∙ seen_none k.first c (starts_not (ok_busy h k keys c) k.next (get_or k.last c 0) (left - 1) (get_or k.first c 0) (λ q. p (e ∙ q)) n)
+      seen_on : {words' : List ℕ} → get_or k.last c 0 ≢ 0 → words' ≡ marked words c → words' ≡ summary (take (c + 1) k.first)
+      seen_on n w = w ∙ ap (λ (x : List ℕ). marked x c) t.seen ∙ seen_some k.first c (starts (ok_busy h k keys c) k.next (get_or k.last c 0) left (get_or k.first c 0) passed n)
 
-    pub scan_again : {words' : List ℕ} → apart k c ≡ true → ((get_or k.last c 0 ≢ 0) × (words' ≡ marked words c)) ⊎ ((get_or k.last c 0 ≡ 0) × (words' ≡ words))
-        → {r : ℕ} → r ≡ verify (ok_busy h k keys c) k.next (get_or k.last c 0) (left - 1) 0 (get_or k.first c 0) → Scan h k keys m r (c + 1) words'
-    unfolding verify_busy
-    scan_again a g {r} e =
-        let b : verify_busy h k keys c (left - 1) ≡ r = rw a (sym e) in
-        let i = busy_le h k keys c (left - 1) in
-        record {
-          few = omega arith;
-          past = omega arith;
-          same = t.same ∙ scan_step h k keys m c left l z ∙ ap (scan h k keys (m - (c + 1)) (c + 1)) b;
-          seen = ⊎_elim (λ n. seen_on e n.0 n.1) (λ n p. n.1 ∙ seen_off e n.0 p) g;
-        }
+      seen_off : get_or k.last c 0 ≡ 0 → words ≡ summary (take (c + 1) k.first)
+      seen_off n = t.seen ∙ seen_none k.first c (starts_not (ok_busy h k keys c) k.next (get_or k.last c 0) left (get_or k.first c 0) passed n)
 
-gate_none : (b : Bool) → gate b 0 ≡ 0
-gate_none true = refl
-gate_none false = refl
+      pub scan_again : {words' : List ℕ} → apart k c ≡ true → ((get_or k.last c 0 ≢ 0) × (words' ≡ marked words c)) ⊎ ((get_or k.last c 0 ≡ 0) × (words' ≡ words)) → Scan h k keys m r (c + 1) words'
+      unfolding verify_busy
+      scan_again a g =
+          let b : verify_busy h k keys c left ≡ suc r = rw a (sym e) in
+          let i = busy_le h k keys c left in
+          record {
+            few = omega arith;
+            past = omega arith;
+            same = t.same ∙ scan_step h k keys m c left l ∙ ap (scan h k keys (m - (c + 1)) (c + 1)) b;
+            seen = ⊎_elim (λ n. seen_on n.0 n.1) (λ n. n.1 ∙ seen_off n.0) g;
+          }
+
+-- three words are the same, as the code compares them
+three : (a : List ℕ) → length a ≡ 3 → a ≡ get_or a 0 0 ∷ get_or a 1 0 ∷ get_or a 2 0 ∷ []
+three [] e = absurd (omega arith)
+three (x ∷ []) e = absurd (omega arith)
+three (x ∷ y ∷ []) e = absurd (omega arith)
+three (x ∷ y ∷ z ∷ []) e = refl
+three (x ∷ y ∷ z ∷ w ∷ ws) e = absurd (omega arith)
+
+grouped : (x y z : Bool) → (x && (y && (z && true))) ≡ (x && y && z)
+grouped false y z = refl
+grouped true y z = ap (λ (t : Bool). y && t) (and-true z)
+
+pub same_three : (a b : List ℕ) → length a ≡ 3 → length b ≡ 3 → pointwise eqb a b ≡ same_words a b
+unfolding same_words
+same_three a b p q =
+    ap₂ (pointwise eqb) (three a p) (three b q)
+    ∙ grouped (eqb (get_or a 0 0) (get_or b 0 0)) (eqb (get_or a 1 0) (get_or b 1 0)) (eqb (get_or a 2 0) (get_or b 2 0))
 
 module _ (h : Head) (k : Links) (keys : List ℕ) where
   pub scanned_refused : scan h k keys free_chain 0 (suc (length k.next)) ≡ 0 → scanned h k keys ≡ 0
   unfolding scanned
   scanned_refused e = ap (gate (same_words (summary k.first) k.busy)) e ∙ gate_none (same_words (summary k.first) k.busy)
 
+  pub scan_words : {m left c : ℕ} {words : List ℕ} → Scan h k keys m left c words → length words ≡ 3
+  unfolding summary
+  scan_words t = ap length t.seen
+
   -- at the end of the scan: its words are compared with those of the state
-  pub scanned_over : {left c : ℕ} {words : List ℕ} → Scan h k keys free_chain left c words → free_chain ≤ c → {b : Bool} → b ≡ same_words words k.busy → scanned h k keys ≡ gate b left
+  pub scanned_over : {left c : ℕ} {words : List ℕ} → Scan h k keys free_chain left c words → free_chain ≤ c → {b : Bool} → b ≡ same_words words k.busy → scanned h k keys ≡ gate b (suc left)
   unfolding scanned
-  scanned_over {left} {c} {words} t l {b} e = elim (ℕ_discrete left 0) [
-    | yes z ↦ scanned_refused (scan_over t l ∙ z) ∙ sym (ap (gate b) z ∙ gate_none b)
-    | no z ↦ ap₂ gate (ap (λ (x : List ℕ). same_words x k.busy) (sym (t.seen z ∙ seen_all k.first c (omega arith))) ∙ sym e) (scan_over t l)
-  ]
+  scanned_over {left} {c} {words} t l {b} e = ap₂ gate (ap (λ (x : List ℕ). same_words x k.busy) (sym (t.seen ∙ seen_all k.first c (omega arith))) ∙ sym e) (scan_over t l)
 
 -- ---- the whole
 
@@ -312,8 +335,8 @@ module _ (w : World) where
   pub unheaded_code : fitting w ≡ true → headed w.head ≡ false → examined w ≡ 2
   unheaded_code f h = examined_code w ∙ code_unheaded _ _ _ f h
 
-  pub headed_code : fitting w ≡ true → headed w.head ≡ true → {v : ℕ} → v ≡ scanned w.head w.links w.keys → examined w ≡ finish w v
-  headed_code f h e = examined_code w ∙ code_at _ _ _ f h ∙ ap (finish w) (sym e)
+  pub headed_code : fitting w ≡ true → headed w.head ≡ true → examined w ≡ finish w (scanned w.head w.links w.keys)
+  headed_code f h = examined_code w ∙ code_at _ _ _ f h
 
   pub scan_few : {v : ℕ} → v ≡ scanned w.head w.links w.keys → v ≤ size w + 1
   unfolding scanned
@@ -322,26 +345,25 @@ module _ (w : World) where
       let g = gate_le (same_words (summary w.links.first) w.links.busy) (scan w.head w.links w.keys free_chain 0 (suc (size w))) in
       omega arith
 
-  pub finish_refused : (v : ℕ) → v ≡ 0 → finish w v ≡ 2
+  pub finish_refused : finish w 0 ≡ 2
   unfolding finish
-  finish_refused v e = rw e
+  finish_refused = refl
 
   -- what the walk along the free chain gives
   abbrev free_walk : ℕ → ℕ
   free_walk left = verify (ok_free w.head.kind w.links w.keys w.values) w.links.next (last_of w free_chain) left 0 (first_of w free_chain)
 
-  finish_some : (v : ℕ) → (v ≡ 0 → ⊥) → finish w v ≡ elim (eqb (v - 1 + w.head.len) (size w) && eqb (free_walk (v - 1)) 1) as (λ x. ℕ) [ true ↦ 0 | false ↦ 2 ]
-  unfolding finish
-  finish_some zero z = absurd (z refl)
-  finish_some (suc left) z = simp sub-one
+  module _ (left : ℕ) where
+    finish_some : finish w (suc left) ≡ elim (eqb (left + w.head.len) (size w) && eqb (free_walk left) 1) as (λ x. ℕ) [ true ↦ 0 | false ↦ 2 ]
+    unfolding finish
+    finish_some = refl
 
-  module _ {v : ℕ} (z : v ≡ 0 → ⊥) where
-    pub finish_miscounted : (v - 1 + w.head.len ≡ size w → ⊥) → finish w v ≡ 2
-    finish_miscounted n = finish_some v z ∙ rw (ne_eqb (v - 1 + w.head.len) (size w) n)
+    pub finish_miscounted : (left + w.head.len ≡ size w → ⊥) → finish w (suc left) ≡ 2
+    finish_miscounted n = finish_some ∙ rw (ne_eqb (left + w.head.len) (size w) n)
 
-    module _ (n : v - 1 + w.head.len ≡ size w) {r : ℕ} (e : r ≡ free_walk (v - 1)) where
-      pub finish_unfree : (r ≡ 1 → ⊥) → finish w v ≡ 2
-      finish_unfree d = finish_some v z ∙ rw (eq-eqb (v - 1 + w.head.len) (size w) n, ← e, ne_eqb r 1 d)
-
-      pub finish_sound : r ≡ 1 → finish w v ≡ 0
-      finish_sound d = finish_some v z ∙ rw (eq-eqb (v - 1 + w.head.len) (size w) n, ← e, d)
+    pub finish_counted : left + w.head.len ≡ size w → {b : Bool} → b ≡ eqb (free_walk left) 1 → finish w (suc left) ≡ cond b 0 2
+    finish_counted n {b} e = finish_some ∙ rw (eq-eqb (left + w.head.len) (size w) n, ← e) (told_by b)
+      where
+        told_by : (b : Bool) → elim b as (λ x. ℕ) [ true ↦ 0 | false ↦ 2 ] ≡ cond b 0 2
+        told_by true = refl
+        told_by false = refl

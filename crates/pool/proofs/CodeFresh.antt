@@ -1,12 +1,20 @@
--- A list that is filled in from the front becomes the list that it is filled with. A fresh pool has two: of zeros, and of the free chain's next links.
+-- A list that is filled in from the front becomes the list that it is filled with, as the next links of a fresh pool do. Then its state and its world.
 use mathlib.Core.Path.{◌≡◌, refl, sym, ◌∙◌}
 use mathlib.Core.List.{List}
-use Prim.Native.Nat.{ℕ, zero, suc, ◌+◌, ◌≤◌, ◌<◌, zero-le}
+use Prim.Native.Nat.{ℕ, zero, suc, ◌+◌, ◌*◌, ◌≤◌, ◌<◌, zero-le}
 use native.Mathlib.Omega.{arith}
 use native.Mathlib.Numerals.{add-one}
-use lib.ListN.{length, get_or, set, take, replicate, length-set, length-replicate, get_or-replicate}
+use lib.ListN.{length, get_or, set, take, replicate, length-set}
 use lib.Seq.{take_all, take-suc, take-suc-set}
-use Rattle.pool.specs.Core.{fresh_next, fresh_first}
+use Rattle.std.specs.Prelude.{Option, Some, None}
+use Rattle.keys.specs.declared.kind.Kind.{Kind}
+use Rattle.keys.specs.declared.words.Words.{Words}
+use Rattle.keys.specs.Ordered.{words}
+use Rattle.pool.specs.declared.state.Head.{Head}
+use Rattle.pool.specs.declared.state.State.{State}
+use Rattle.pool.specs.World.{free_chain, chain_count, chain_set, world_of}
+use Rattle.pool.specs.Core.{fresh_next, fresh_first, fresh_links, fresh_core, fresh_state}
+use Rattle.pool.specs.Fresh.{topped_with, fresh_with, state_with}
 use Rattle.pool.proofs.FreshPool.{length_fresh, fresh_mid, fresh_end}
 
 -- of n elements the first i are those of ys
@@ -33,16 +41,7 @@ filled_on {ys = ys} {xs = xs} {i = i} v f h e =
 pub filled_end : {n : ℕ} {ys xs : List ℕ} {i : ℕ} → Filled n ys xs i → n ≤ i → xs ≡ ys
 filled_end {ys = ys} {xs = xs} {i = i} f h = sym (take_all i xs (omega arith)) ∙ f.same ∙ take_all i ys (omega arith)
 
--- ---- zeros, and the next links of a fresh pool
-
-abbrev pub Wiped : ℕ → List ℕ → ℕ → Type 0
-Wiped n xs i = Filled n (replicate n 0) xs i
-
-pub wiped_start : (xs : List ℕ) → Wiped (length xs) xs 0
-wiped_start xs = filled_start xs (length-replicate (length xs) 0)
-
-pub wiped_on : {n : ℕ} {xs : List ℕ} {i : ℕ} → Wiped n xs i → i < n → Wiped n (set xs i 0) (i + 1)
-wiped_on {n} {i = i} f h = filled_on 0 f h (sym (get_or-replicate n i 0 0 h))
+-- ---- the next links of a fresh pool
 
 abbrev pub Chained : ℕ → List ℕ → ℕ → Type 0
 Chained n xs i = Filled n (fresh_next 0 n) xs i
@@ -65,3 +64,21 @@ pub first_some : (n : ℕ) → (n ≡ 0 → ⊥) → 1 ≡ fresh_first n
 unfolding fresh_first
 first_some zero h = absurd (h refl)
 first_some (suc n) h = refl
+
+-- ---- the state of a fresh heap, and its world
+
+module _ (kind : Kind) (n : ℕ) where
+  pub state_is : (top : Option Words) {h : Head} {f : ℕ} → h ≡ topped_with kind top → f ≡ fresh_first n
+      → chain_set (record { head = h; first = replicate chain_count 0; last = replicate chain_count 0; busy = replicate 3 0 }) free_chain f n ≡ state_with kind n top
+  unfolding topped_with state_with fresh_state
+  state_is None e f = rw (e, f) refl
+  state_is (Some k) e f = rw (e, f) refl
+
+  world_is : (top : Option Words) → world_of (state_with kind n top) (replicate (words kind * n) 0) (replicate n 0) (fresh_next 0 n) (replicate n 0) ≡ fresh_with kind n top
+  unfolding fresh_with fresh_core fresh_links state_with fresh_state chain_set
+  world_is None = refl
+  world_is (Some k) = refl
+
+  pub laid_is : (top : Option Words) {s : State} {keys values next back : List ℕ} → s ≡ state_with kind n top → keys ≡ replicate (words kind * n) 0 → values ≡ replicate n 0 → next ≡ fresh_next 0 n
+      → back ≡ replicate n 0 → world_of s keys values next back ≡ fresh_with kind n top
+  laid_is top s k v x b = rw (s, k, v, x, b) (world_is top)

@@ -34,3 +34,4 @@ pub mod CodeAgainst
 pub mod CodeAlong
 pub mod CodeFresh
 pub mod CodeExam
+pub mod Refusals

@@ -2,7 +2,8 @@
 --   Chain (lists of slots), World (state and pool as one record), Marks (the busy words), Sound (fit and sound, document 01's words),
 --   Lay (from a world to the rule's heap, and from chains to links).
 -- Examine is what the examination computes; proofs/Exam shows it to be Fit and Sound.
--- Cited by contracts of inner functions only: Fine (their premises) and Core (what the code does, store by store).
+-- Codes has the number of each refusal, and Lent a state and a lent pool as a world.
+-- Cited by contracts of inner functions only: Fine (their premises), Core (what the code does, store by store), Fresh and Walk.
 pub mod Chain
 pub mod World
 pub mod Marks
@@ -11,3 +12,7 @@ pub mod Examine
 pub mod Lay
 pub mod Fine
 pub mod Core
+pub mod Codes
+pub mod Lent
+pub mod Fresh
+pub mod Walk

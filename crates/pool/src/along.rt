@@ -1,41 +1,37 @@
-// Along a chain: the greatest key, and the spread of a chain. The masks are those of the kind.
+// Along a chain: the greatest key, and the spread of a chain.
 ghost use Rattle.std.specs.Prelude.{◌≡◌, ◌<◌, ◌≤◌, length};
 ghost use Rattle.keys.specs.Ordered.{ordered};
-ghost use Rattle.keys.specs.Masks.{Reads};
-ghost use Rattle.pool.specs.World.{links};
+ghost use Rattle.pool.specs.Lent.{links_at};
 ghost use Rattle.pool.specs.Fine.{Under, Fine, Room};
 ghost use Rattle.pool.specs.Core.{greatest_of, drained, drain_chain};
 
 use crate::against::{bare0, slot_above_slot, slot_distance};
 use crate::chain::append;
+use crate::state::State;
 use crate::summary::unmark;
-use keys::{Kind, Masks};
+use keys::{Reader, Words};
 
 // The link of the slot with the greatest key, the first of them, on the chain from the link `start`.
-pub fn greatest(kind: Kind, masks: Masks, keys: &[u64], next: &[u32], start: u32) -> u32
-    requires reads { Reads masks kind }
-    requires room { Room kind (length next.now) keys.now }
+pub fn greatest(reader: Reader, keys: &[u64], next: &[u32], start: u32) -> u32
+    requires room { Room reader.kind (length next.now) keys.now }
     requires under { Under (length next.now) next.now }
     requires start_nonzero { (0 < start) × (start ≤ length next.now) }
-    ensures { result ≡ greatest_of kind keys.now next.now start }
+    ensures { result ≡ greatest_of reader.kind keys.now next.now start }
 {
-    let n = next.len();
     let s = start as usize - 1;
     let mut best = start;
-    let mut best0 = bare0(kind, keys, s);
+    let mut best0 = bare0(reader.kind, keys, s);
     let mut at = next[s];
-    let mut turns = 0;
-    while turns < n {
+    for _ in 0..next.len() {
         if at == 0 {
             break;
         }
         let i = at as usize - 1;
-        if slot_above_slot(kind, masks, keys, i, best as usize - 1, best0) {
+        if slot_above_slot(reader, keys, i, best as usize - 1, best0) {
             best = at;
-            best0 = bare0(kind, keys, i);
+            best0 = bare0(reader.kind, keys, i);
         }
         at = next[i];
-        turns += 1;
     }
     best
 }
@@ -43,39 +39,33 @@ pub fn greatest(kind: Kind, masks: Masks, keys: &[u64], next: &[u32], start: u32
 // Each slot of the chain, front to back, goes to the tail of the bucket of its key's distance to the
 // top. Gives how many were moved.
 pub fn spread(
-    first: &mut [u32; 131],
-    last: &mut [u32; 131],
-    busy: &mut [u64; 3],
+    state: &mut State,
+    reader: Reader,
     keys: &[u64],
     next: &mut [u32],
     back: &mut [u32],
-    kind: Kind,
-    masks: Masks,
     chain: usize,
-    top0: u64,
-    top1: u64,
+    top: Words,
 ) -> u32
-    requires reads { Reads masks kind }
-    requires fine { Fine (links first.old last.old next.old back.old busy.old) }
-    requires room { Room kind (length next.old) keys.now }
+    requires fine { Fine (links_at state.old next.old back.old) }
+    requires room { Room reader.kind (length next.old) keys.now }
     requires chain_bound { chain < 131 }
-    ensures { drained (links first.new last.new next.new back.new busy.new) result ≡ drain_chain kind keys.now (ordered kind top0 top1) chain (links first.old last.old next.old back.old busy.old) }
+    ensures head { state.new.head ≡ state.old.head }
+    ensures moved { drained (links_at state.new next.new back.new) result ≡ drain_chain reader.kind keys.now (ordered reader.kind top.first top.second) chain (links_at state.old next.old back.old) }
 {
-    let n = next.len();
-    let mut at = first[chain];
-    unmark(busy, chain);
-    first[chain] = 0;
-    last[chain] = 0;
+    let mut at = state.first[chain];
+    unmark(&mut state.busy, chain);
+    state.first[chain] = 0;
+    state.last[chain] = 0;
     let mut moves: u32 = 0;
-    while (moves as usize) < n {
+    for _ in 0..next.len() {
         if at == 0 {
             break;
         }
         let slot = at - 1;
-        let i = slot as usize;
-        at = next[i];
-        let d = slot_distance(kind, masks, keys, i, top0, top1);
-        append(first, last, busy, next, back, d as usize, slot);
+        at = next[slot as usize];
+        let bucket = slot_distance(reader, keys, slot as usize, top);
+        append(state, next, back, bucket as usize, slot);
         moves += 1;
     }
     moves

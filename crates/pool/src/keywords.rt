@@ -3,38 +3,36 @@ ghost use Rattle.std.specs.Prelude.{◌≡◌};
 ghost use Rattle.pool.specs.World.{key_word0, key_word1, store_key};
 ghost use Rattle.pool.specs.Fine.{Holds};
 
-use keys::Kind;
+use keys::{Kind, Words};
 
-pub fn key0(kind: Kind, keys: &[u64], slot: usize) -> u64
+#[tactic(auto, unfolding(crate::specs::World::key_word0, crate::specs::World::key_word1))]
+pub fn key_at(kind: Kind, keys: &[u64], slot: usize) -> Words
     requires { Holds kind keys.now slot }
-    ensures { result ≡ key_word0 kind keys.now slot }
+    ensures first { result.first ≡ key_word0 kind keys.now slot }
+    ensures second { result.second ≡ key_word1 kind keys.now slot }
 {
     if keys::is_wide(kind) {
-        keys[2 * slot]
+        Words {
+            first: keys[2 * slot],
+            second: keys[2 * slot + 1],
+        }
     } else {
-        keys[slot]
+        Words {
+            first: keys[slot],
+            second: 0,
+        }
     }
 }
 
-pub fn key1(kind: Kind, keys: &[u64], slot: usize) -> u64
-    requires { Holds kind keys.now slot }
-    ensures { result ≡ key_word1 kind keys.now slot }
-{
-    if keys::is_wide(kind) {
-        keys[2 * slot + 1]
-    } else {
-        0
-    }
-}
-
-pub fn store_key(kind: Kind, keys: &mut [u64], slot: usize, key0: u64, key1: u64)
+#[tactic(auto, unfolding(crate::specs::World::store_key))]
+pub fn store_key(kind: Kind, keys: &mut [u64], slot: usize, key: Words)
     requires { Holds kind keys.old slot }
-    ensures { keys.new ≡ store_key kind keys.old slot key0 key1 }
+    ensures { keys.new ≡ store_key kind keys.old slot key.first key.second }
 {
     if keys::is_wide(kind) {
-        keys[2 * slot] = key0;
-        keys[2 * slot + 1] = key1;
+        keys[2 * slot] = key.first;
+        keys[2 * slot + 1] = key.second;
     } else {
-        keys[slot] = key0;
+        keys[slot] = key.first;
     }
 }

@@ -12,6 +12,9 @@ mod chain;
 mod examination;
 mod fresh;
 mod keywords;
+mod lent;
+mod refusal;
+mod standing;
 mod state;
 mod summary;
 mod walking;
@@ -19,10 +22,9 @@ mod walking;
 pub use along::{greatest, spread};
 pub use chain::{append, release, take_free, unhook_tail};
 pub use examination::{examine, fits};
-pub use fresh::{fresh_state, lay_fresh};
-pub use keywords::{key0, key1, store_key};
-pub use state::{
-    ABOVE_TOP, CHAINS, DONE, EMPTY, FREE, FULL, Head, LIMIT, MALFORMED, NAN, NO_ROOM, RAGGED,
-    State, UNFIT, UNSOUND, WAITING,
-};
+pub use fresh::lay_fresh;
+pub use keywords::{key_at, store_key};
+pub use lent::{Entry, Pool, View};
+pub use refusal::{Refusal, UnknownCode, code};
+pub use state::{Answer, CHAINS, FREE, Head, LIMIT, State, WAITING};
 pub use summary::first_busy;

@@ -1,8 +1,9 @@
 // The state of a heap, which goes into a call by value and comes back by value.
 ghost use Rattle.std.specs.Prelude.{◌≡◌};
 ghost use Rattle.pool.specs.World.{chain_set};
+ghost use Rattle.pool.specs.Fresh.{topped_with};
 
-use keys::Kind;
+use keys::{Kind, Words};
 
 // The most slots that a pool may have.
 pub const LIMIT: usize = 4096;
@@ -14,29 +15,10 @@ pub const FREE: usize = 130;
 
 pub const CHAINS: usize = 131;
 
-// The numbers that calls give back, tested in this order; each is given only then.
-pub const DONE: u8 = 0;
-
-pub const UNFIT: u8 = 1;
-
-pub const UNSOUND: u8 = 2;
-
-pub const RAGGED: u8 = 3;
-
-pub const NO_ROOM: u8 = 4;
-
-pub const MALFORMED: u8 = 5;
-
-pub const NAN: u8 = 9;
-
-pub const ABOVE_TOP: u8 = 6;
-
-pub const FULL: u8 = 7;
-
-pub const EMPTY: u8 = 8;
-
 // What a state holds besides its links: the kind of key, how many entries, and the top, if there is one.
-#[derive(Clone, Copy)]
+// The top is a flag and two words, because any state may be handed in: one whose words are set though
+// there is no top is told 2.
+#[derive(Clone, Copy, PartialEq, Eq, Debug)]
 pub struct Head {
     pub kind: Kind,
     pub len: u32,
@@ -46,25 +28,44 @@ pub struct Head {
 }
 
 impl Head {
-    // The same head, made from its fields. A copy of the whole carries its padding along, and the next
-    // read of the head waits for that (docs/PERFORMANCE.md).
-    pub fn anew(self) -> Head
-        ensures { result ≡ self }
+    // An empty heap's, with this top.
+    #[tactic(auto, unfolding(crate::specs::Fresh::topped_with))]
+    pub fn fresh(kind: Kind, top: Option<Words>) -> Head
+        ensures { result ≡ topped_with kind top }
     {
-        let kind = self.kind;
-        Head {
-            kind,
-            len: self.len,
-            topped: self.topped,
-            top0: self.top0,
-            top1: self.top1,
+        match top {
+            Some(key) => Head {
+                kind,
+                len: 0,
+                topped: true,
+                top0: key.first,
+                top1: key.second,
+            },
+            None => Head {
+                kind,
+                len: 0,
+                topped: false,
+                top0: 0,
+                top1: 0,
+            },
+        }
+    }
+
+    // The words of the top, whether or not there is one.
+    pub fn top_words(self) -> Words
+        ensures first { result.first ≡ self.top0 }
+        ensures second { result.second ≡ self.top1 }
+    {
+        Words {
+            first: self.top0,
+            second: self.top1,
         }
     }
 }
 
 // A link is 0 for none, else a slot's number plus one. `first` and `last` have one of each chain.
 // Bit b of the three words of `busy` is set exactly when bucket b is not empty.
-#[derive(Clone, Copy)]
+#[derive(Clone, Copy, PartialEq, Eq, Debug)]
 pub struct State {
     pub head: Head,
     pub first: [u32; 131],
@@ -75,6 +76,7 @@ pub struct State {
 impl State {
     // The state with other ends of one chain. The busy words are not its affair, nor are the links
     // between the ends.
+    #[tactic(auto, using(crate::proofs::CodeState::chain_past), unfolding(crate::specs::World::chain_set))]
     pub fn with_chain(self, chain: usize, first: u32, last: u32) -> State
         ensures { result ≡ chain_set self chain first last }
     {
@@ -86,4 +88,11 @@ impl State {
         s.last[chain] = last;
         s
     }
+}
+
+// What a call gives: what it was told, and the state afterwards.
+#[derive(Clone, Copy)]
+pub struct Answer<T, E> {
+    pub told: Result<T, E>,
+    pub state: State,
 }

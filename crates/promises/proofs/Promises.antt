@@ -27,7 +27,7 @@ use Rattle.keys.proofs.Ordered.{width_le}
 use Rattle.engine.specs.Outcome.{refused, checked, unless, key_code}
 use Rattle.heap.specs.Calls.{over, pushed, popped, cleared, cleared_to}
 use Rattle.heap.proofs.Public.{Fair, FairList, refused_changes_nothing as calls-refused}
-use Rattle.bulk.specs.declared.Entry.{Entry as BulkEntry}
+use Rattle.pool.specs.declared.lent.Entry.{Entry as BulkEntry}
 use Rattle.bulk.specs.Bulk.{extended}
 use Rattle.bulk.proofs.Promises.{extended_refused}
 use Rattle.batch.specs.Batch.{batched, records, batch_code, batch}

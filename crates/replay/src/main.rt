@@ -8,52 +8,94 @@
 #![tactic(auto)]
 
 use keys::{Kind, Table};
+use pool::Refusal;
 
-// Fills what is lent with a stream's records and serves them. Answers whether they came whole.
-fn serve_records(kind: Kind, slots: usize, records: &mut [u8]) -> bool {
+// What stands before a stream's records.
+#[derive(Clone, Copy)]
+struct Heading {
+    kind: Kind,
+    slots: usize,
+    records: usize,
+}
+
+impl Heading {
+    fn of(bytes: [u8; 16]) -> Heading {
+        let [
+            k0,
+            k1,
+            k2,
+            k3,
+            t0,
+            t1,
+            t2,
+            t3,
+            n0,
+            n1,
+            n2,
+            n3,
+            r0,
+            r1,
+            r2,
+            r3,
+        ] = bytes;
+        Heading {
+            kind: Kind {
+                number: gateway::small([k0, k1, k2, k3]),
+                table: Table::of(t0, t1, t2, t3),
+            },
+            slots: gateway::small([n0, n1, n2, n3]) as usize,
+            records: gateway::small([r0, r1, r2, r3]) as usize,
+        }
+    }
+}
+
+// The heading of the next stream, if there is one.
+fn read_heading() -> Result<Option<Heading>, Refusal> {
+    let mut bytes = [0; 16];
+    match io::read_full(0, &mut bytes) {
+        0 => Ok(None),
+        16 => Ok(Some(Heading::of(bytes))),
+        _ => Err(Refusal::Ragged),
+    }
+}
+
+// Fills what is lent with a stream's records and serves them.
+fn serve_records(kind: Kind, slots: usize, records: &mut [u8]) -> Result<(), Refusal> {
     let got = io::read_full(0, records);
     if got < records.len() {
-        gateway::tell(pool::RAGGED);
-        return false;
+        return Err(Refusal::Ragged);
     }
     gateway::serve_slots(kind, slots, records);
-    true
+    Ok(())
 }
 
-// Lends the room that so many records take.
-fn serve_stream(kind: Kind, slots: usize, records: usize) -> bool {
-    if 2048 < records {
-        gateway::tell(pool::NO_ROOM);
-        return false;
+// Serves the next stream, if there is one. Answers whether there was.
+fn serve_next() -> Result<bool, Refusal> {
+    let Some(heading) = read_heading()? else {
+        return Ok(false);
+    };
+    if 2048 < heading.records {
+        return Err(Refusal::NoRoom);
     }
-    let length = 32 * records;
     let mut room = [0; 65536];
-    serve_records(kind, slots, &mut room[..length])
+    serve_records(
+        heading.kind,
+        heading.slots,
+        &mut room[..32 * heading.records],
+    )?;
+    Ok(true)
 }
 
-// The next stream, if there is one. Answers whether to go on.
-fn serve_next() -> bool {
-    let mut head = [0; 16];
-    let got = io::read_full(0, &mut head);
-    if got == 0 {
-        return false;
-    }
-    if got < 16 {
-        gateway::tell(pool::RAGGED);
-        return false;
-    }
-    let number = gateway::small(head[0], head[1], head[2], head[3]);
-    let table = Table::of(head[4], head[5], head[6], head[7]);
-    let kind = Kind { number, table };
-    let slots = gateway::small(head[8], head[9], head[10], head[11]);
-    let records = gateway::small(head[12], head[13], head[14], head[15]);
-    serve_stream(kind, slots as usize, records as usize)
-}
-
-// Nothing says that an input ends, so the turns are counted down from a number that no run uses up.
+// Nothing says that an input ends, so the turns are those that no run uses up.
 fn main() {
-    let mut turns = u64::MAX;
-    while turns > 0 && serve_next() {
-        turns -= 1;
+    for _ in 0..u64::MAX {
+        match serve_next() {
+            Ok(true) => {}
+            Ok(false) => return,
+            Err(refusal) => {
+                gateway::tell(refusal);
+                return;
+            }
+        }
     }
 }

@@ -1,12 +1,20 @@
 -- `keys::is_wide` meets its contract.
-use borrow.Author.Tests.{eq-eqb, ne_eqb}
-use Rattle.keys.specs.Ordered.{is_wide}
+use mathlib.Core.Path.{sym, ◌∙◌}
+use mathlib.Core.Logic.{inl, inr}
+use Rattle.keys.proofs.Names.{pair_is, mixed_is, not_pair, not_mixed}
+use Rattle.keys.proofs.Ordered.{wide_pair, wide_mixed, wide_word}
 use Rattle.keys.proofs.is_wide.Goals as goal
 
-pub returns-then-kind-eq4 : goal.returns-then-kind-eq4
-unfolding is_wide
-returns-then-kind-eq4 c = simp (eq-eqb c.args.kind.number 4 c.if-kind-eq4.true)
+pub returns-in-Pair : goal.returns-in-Pair
+returns-in-Pair c =
+    let n = c.args.kind in
+    elim c.in-Pair.is [
+      | inl e ↦ sym (wide_pair n (pair_is n.number (sym e ∙ c.name.ensures)))
+      | inr e ↦ sym (wide_mixed n (mixed_is n.number (sym e ∙ c.name.ensures)))
+    ]
 
-pub returns : goal.returns
-unfolding is_wide
-returns c = simp (ne_eqb c.args.kind.number 4 c.if-kind-eq4.false)
+pub returns-in_default : goal.returns-in_default
+returns-in_default c =
+    let n = c.args.kind in
+    let e = c.name.ensures in
+    sym (wide_word n (not_pair n.number e c.in_default.not-Pair) (not_mixed n.number e c.in_default.not-Mixed))

@@ -1,14 +1,9 @@
--- `batch::answers::write` meets its contract: each field is written at its place. Assumes nothing.
-use mathlib.Core.Path.{◌≡◌, ◌∙◌}
-use mathlib.Core.Bool.{cond}
-use Rattle.batch.proofs.CodeBytes.{answer_is}
+-- `batch::answers::write` meets its contract: a reply is shown, or a refusal's number. Assumes nothing.
+use Rattle.batch.proofs.CodeBytes.{told_ok, told_err}
 use Rattle.batch.proofs.answers.write.Goals as goal
-use Rattle.batch.proofs.answers.write.Goals.{then-present, else-present}
 
-pub returns : goal.returns
-returns c =
-    -- the second byte says whether a key follows
-    let flag : c.if-present.out ≡ cond c.args.present 1 0 =
-    elim c.if-present.branch [ then-present w ↦ w.out-is ∙ simp w.if-present.true | else-present w ↦ w.out-is ∙ simp w.if-present.false ] in
-    answer_is _ _ _ _ _ _ _ _ c.requires flag c.put_half.ensures c.put_half-2.ensures c.put_half-3.ensures
-    c.put_word.ensures c.put_word-2.ensures c.put_word-3.ensures
+pub returns-in-Ok : goal.returns-in-Ok
+returns-in-Ok c = told_ok _ _ c.in-Ok.is c.show.ensures
+
+pub returns-in-Err : goal.returns-in-Err
+returns-in-Err c = told_err _ _ c.in-Err.is c.from.ensures c.moved.ensures c.show-in-Err.ensures

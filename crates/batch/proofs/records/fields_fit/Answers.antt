@@ -5,17 +5,17 @@ use Rattle.batch.proofs.CodeBytes.{fit_push, fit_clear, fit_bare, fit_unknown}
 use Rattle.batch.proofs.records.fields_fit.Goals as goal
 
 pub returns-in-1 : goal.returns-in-1
-returns-in-1 c = c.well_formed_by.ensures ∙ sym (fit_push _ _ c.in-1.is)
+returns-in-1 c = c.well_formed-in-1.ensures ∙ sym (fit_push _ _ c.in-1.is)
 
-pub returns-then-well_formed_by : goal.returns-then-well_formed_by
-returns-then-well_formed_by c =
+pub returns-then-well_formed : goal.returns-then-well_formed
+returns-then-well_formed c =
     let x = c.args in
-    simp (fit_clear x.kind x.r c.in-5.is, sym c.well_formed_by-in-5.ensures ∙ c.if-well_formed_by.true)
+    simp (fit_clear x.reader.kind x.r c.in-5.is, sym c.well_formed-in-5.ensures ∙ c.if-well_formed.true)
 
-pub returns-else-well_formed_by : goal.returns-else-well_formed_by
-returns-else-well_formed_by c =
+pub returns-else-well_formed : goal.returns-else-well_formed
+returns-else-well_formed c =
     let x = c.args in
-    simp (fit_clear x.kind x.r c.in-5.is, sym c.well_formed_by-in-5.ensures ∙ c.if-well_formed_by.false, c.if-well_formed_by.false)
+    simp (fit_clear x.reader.kind x.r c.in-5.is, sym c.well_formed-in-5.ensures ∙ c.if-well_formed.false, c.if-well_formed.false)
 
 pub returns-in-2 : goal.returns-in-2
 returns-in-2 c = c.is_bare.ensures ∙ sym (fit_bare _ _ (λ e. omega arith) (λ e. omega arith) (omega arith) (omega arith))

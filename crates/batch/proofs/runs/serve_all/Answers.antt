@@ -1,15 +1,16 @@
 -- `batch::runs::serve_all` meets its contract, by the steps of its loop. Assumes nothing.
-use Rattle.pool.proofs.Fine.{whole_ready}
-use Rattle.batch.proofs.CodeRuns.{served_anew, turn_next, turn_last}
+use mathlib.Core.Path.{◌∙◌}
+use Rattle.batch.proofs.CodeRuns.{turn_next, turn_last}
 use Rattle.batch.proofs.runs.serve_all.Goals as goal
-
-pub serve-s-requires-clause-ready : goal.serve-s-requires-clause-ready
-serve-s-requires-clause-ready c = whole_ready c.loop-i.invariant.whole
 
 pub loop-i-preserved : goal.loop-i-preserved
 loop-i-preserved c =
-    turn_next c.loop-i.invariant c.loop-i-test.true c.requires.n_in_bounds_2
-    c.read-r.ensures (served_anew c.anew-h.ensures c.serve-s.ensures) c.write.ensures
+    let turn = c.loop-i.invariant.0 in
+    let old = c.loop-i.invariant.1 in
+    let same = c.serve-told.ensures.same in (
+      turn_next turn c.loop-i-test.true c.requires.n_in_bounds_2 c.read.ensures _ _ c.serve-told.ensures.gives c.write.ensures,
+      (same.0 ∙ old.0, same.1 ∙ old.1, same.2 ∙ old.2, same.3 ∙ old.3),
+    )
 
-pub returns : goal.returns
-returns c = turn_last c.loop-i.invariant c.loop-i-test.false
+pub returns-clause-runs : goal.returns-clause-runs
+returns-clause-runs c = turn_last c.loop-i.invariant.0 c.loop-i-test.false

@@ -1,13 +1,19 @@
--- `batch::serving::clear_to` meets its contract: the key is malformed, or the world is fresh at it. Assumes nothing.
-use mathlib.Core.Path.{sym, ◌∙◌}
-use Rattle.batch.proofs.CodeServing.{told_replied, ready_pooled, clear_to_malformed, clear_to_fresh}
+-- `batch::serving::clear_to` meets its contract: the key is refused, or the world is fresh at it. Assumes nothing.
+use Rattle.std.proofs.lemmas.Result.{err_from_is_err_and}
+use Rattle.pool.specs.Codes.{told}
+use Rattle.pool.specs.Lent.{world_in}
+use Rattle.batch.proofs.CodeServing.{moved_replied, err_replied, clear_to_refused, clear_to_fresh}
 use Rattle.batch.proofs.serving.clear_to.Goals as goal
 
-pub returns-then-told-ne0 : goal.returns-then-told-ne0
-returns-then-told-ne0 c = told_replied c.bare.ensures (clear_to_malformed _ _ _ _ c.key_code-told.ensures c.if-told-ne0.true)
+pub returns-in_err-test_key-clause-gives : goal.returns-in_err-test_key-clause-gives
+unfolding told
+returns-in_err-test_key-clause-gives c =
+    let x = c.args in
+    let p = err_from_is_err_and c.from_residual.result c.from_residual.ensures.1 in
+    err_replied p.1 p.2 (clear_to_refused (world_in x.engine.now.state x.pool.now) x.key x.engine.now.kinds _ c.in_err-test_key.ensures)
 
-pub reset-fresh-requires : goal.reset-fresh-requires
-reset-fresh-requires c = let p = ready_pooled c.requires.ready in record { next_len_bound = p.0; pooled = p.1 }
-
-pub returns : goal.returns
-returns c = told_replied c.bare-2.ensures (clear_to_fresh _ _ _ (sym c.key_code-told.ensures ∙ c.if-told-ne0.false) c.reset-fresh.ensures)
+pub returns-clause-gives : goal.returns-clause-gives
+unfolding told
+returns-clause-gives c =
+    let x = c.args in
+    moved_replied c.moved.ensures (clear_to_fresh (world_in x.engine.now.state x.pool.now) x.key x.engine.now.kinds c.in_ok-test_key.ensures c.reset.ensures.fresh)

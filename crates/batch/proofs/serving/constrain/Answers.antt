@@ -1,6 +1,9 @@
--- `batch::serving::constrain` meets its contract: what the engine gives, and nothing besides.
-use Rattle.batch.proofs.CodeServing.{told_replied, constrain_done}
+-- `batch::serving::constrain` meets its contract: what the engine gives. Assumes nothing.
+use Rattle.pool.specs.Lent.{world_in}
+use Rattle.batch.proofs.CodeServing.{moved_replied, constrain_done}
 use Rattle.batch.proofs.serving.constrain.Goals as goal
 
-pub returns : goal.returns
-returns c values = told_replied c.bare.ensures (constrain_done _ c.constrain-m.ensures)
+pub returns-clause-gives : goal.returns-clause-gives
+returns-clause-gives c =
+    let x = c.args in
+    moved_replied c.moved.ensures (constrain_done (world_in x.engine.now.state x.pool.now) c.constrain.ensures)

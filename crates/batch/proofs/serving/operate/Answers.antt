@@ -1,25 +1,63 @@
 -- `batch::serving::operate` meets its contract: what each operation gives is what `operated_core` says. Assumes nothing.
-use Rattle.batch.proofs.CodeServing.{op_push, op_pop, op_constrain, op_clear, op_clear_to, op_read}
+use Rattle.pool.specs.Lent.{world_in}
+use Rattle.pool.proofs.Fine.{whole_ready}
+use Rattle.batch.specs.Core.{operated_core}
+use Rattle.batch.proofs.CodeServing.{moved_replied, clear_fresh, top_told, len_told, acts}
 use Rattle.batch.proofs.serving.operate.Goals as goal
 
-pub returns-then-op-eq1 : goal.returns-then-op-eq1
-returns-then-op-eq1 c = op_push _ _ c.if-op-eq1.true c.push.ensures
+pub push-requires : goal.push-requires
+push-requires c = whole_ready c.requires
 
-pub returns-then-op-eq2 : goal.returns-then-op-eq2
-returns-then-op-eq2 c = op_pop _ _ c.if-op-eq2.true c.pop.ensures
+pub pop-requires : goal.pop-requires
+pop-requires c = whole_ready c.requires
 
 pub constrain-requires : goal.constrain-requires
-constrain-requires c = let p = c.requires in
-    record { reads = p.reads; fine = p.ready.fine; room = p.ready.room }
+constrain-requires c = whole_ready c.requires
 
-pub returns-then-op-eq3 : goal.returns-then-op-eq3
-returns-then-op-eq3 c = op_constrain _ _ c.if-op-eq3.true (c.constrain.ensures _)
+pub reset-requires : goal.reset-requires
+reset-requires c = whole_ready c.requires
 
-pub returns-then-op-eq4 : goal.returns-then-op-eq4
-returns-then-op-eq4 c = op_clear _ _ c.if-op-eq4.true c.clear.ensures
+pub clear_to-requires : goal.clear_to-requires
+clear_to-requires c = whole_ready c.requires
 
-pub returns-then-op-eq5 : goal.returns-then-op-eq5
-returns-then-op-eq5 c = op_clear_to _ _ c.if-op-eq5.true c.clear_to.ensures
+pub returns-in-Push-clause-gives : goal.returns-in-Push-clause-gives
+unfolding operated_core
+returns-in-Push-clause-gives c =
+    let w = world_in c.args.engine.now.state c.args.pool.now in
+    acts w c.in-Push.is c.push.ensures.gives
 
-pub returns : goal.returns
-returns c = op_read _ _ c.if-op-eq1.false c.if-op-eq2.false c.if-op-eq3.false c.if-op-eq4.false c.if-op-eq5.false c.read_only.ensures
+pub returns-in-Pop-clause-gives : goal.returns-in-Pop-clause-gives
+unfolding operated_core
+returns-in-Pop-clause-gives c =
+    let w = world_in c.args.engine.now.state c.args.pool.now in
+    acts w c.in-Pop.is c.pop.ensures.gives
+
+pub returns-in-Constrain-clause-gives : goal.returns-in-Constrain-clause-gives
+unfolding operated_core
+returns-in-Constrain-clause-gives c =
+    let w = world_in c.args.engine.now.state c.args.pool.now in
+    acts w c.in-Constrain.is c.constrain.ensures.gives
+
+pub returns-in-Clear-clause-gives : goal.returns-in-Clear-clause-gives
+unfolding operated_core
+returns-in-Clear-clause-gives c =
+    let w = world_in c.args.engine.now.state c.args.pool.now in
+    acts w c.in-Clear.is (moved_replied c.moved.ensures (clear_fresh w c.reset.ensures.fresh))
+
+pub returns-in-ClearTo-clause-gives : goal.returns-in-ClearTo-clause-gives
+unfolding operated_core
+returns-in-ClearTo-clause-gives c =
+    let w = world_in c.args.engine.now.state c.args.pool.now in
+    acts w c.in-ClearTo.is c.clear_to.ensures.gives
+
+pub returns-in-Top-clause-gives : goal.returns-in-Top-clause-gives
+unfolding operated_core
+returns-in-Top-clause-gives c =
+    let w = world_in c.args.engine.now.state c.args.pool.now in
+    acts w c.in-Top.is (top_told c.requires c.moved-in-Top.ensures c.top.ensures)
+
+pub returns-in-Length-clause-gives : goal.returns-in-Length-clause-gives
+unfolding operated_core
+returns-in-Length-clause-gives c =
+    let w = world_in c.args.engine.now.state c.args.pool.now in
+    acts w c.in-Length.is (len_told w c.moved-in-Length.ensures)

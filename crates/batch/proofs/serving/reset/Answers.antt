@@ -1,8 +1,11 @@
--- `batch::serving::reset` meets its contract: a pool laid fresh and a fresh state are the fresh world. Assumes nothing.
-use Rattle.batch.proofs.CodeServing.{laid_fresh}
+-- `batch::serving::reset` meets its contract: the slices are of one size, and the kind stays. Assumes nothing.
+use mathlib.Core.Path.{sym, ap, ◌∙◌}
+use Rattle.pool.specs.World.{World}
+use Rattle.batch.proofs.CodeServing.{ready_pooled, fresh_kind}
 use Rattle.batch.proofs.serving.reset.Goals as goal
 
-pub returns : goal.returns
-returns c =
-    let laid = c.lay_fresh.ensures in
-    laid_fresh c.requires.pooled _ _ _ _ _ _ _ _ (laid.keys_after, (laid.values_after, (laid.next_after, laid.back_after))) c.fresh_state-s.ensures
+pub invariant_of-engine : goal.invariant_of-engine
+invariant_of-engine c = record { kinds = c.args.engine.now.kinds ∙ sym (ap (λ (w : World). w.head.kind) (c.lay_fresh-engine.ensures.fresh (ready_pooled c.requires)) ∙ fresh_kind _ _ _) }
+
+pub returns-clause-fresh : goal.returns-clause-fresh
+returns-clause-fresh c = c.lay_fresh-engine.ensures.fresh (ready_pooled c.requires)

@@ -1,27 +1,29 @@
--- `heap::changing::clear_to` meets its contract: what it gives where the examination stops it, where the key is malformed, and else. Assumes nothing.
-use mathlib.Core.Path.{sym, ◌∙◌}
-use native.Mathlib.Omega.{arith}
+-- `heap::changing::clear_to` meets its contract: what it gives where a test stops it, and else. Assumes nothing.
 use borrow.Author.Rules.{rules}
+use Rattle.pool.specs.Codes.{told}
+use Rattle.pool.specs.Lent.{world_in}
 use Rattle.pool.proofs.CodeState.{state_typed}
-use Rattle.heap.specs.Calls.{cleared_to}
-use Rattle.heap.proofs.CodeChecked.{stopped}
-use Rattle.heap.proofs.CodeFresh.{passed_small, cleared_to_malformed, cleared_to_fresh}
+use Rattle.engine.specs.Answers.{moves_answered}
+use Rattle.heap.proofs.CodeChecked.{seen}
+use Rattle.heap.proofs.CodeFresh.{none_told, seen_to, passed_small, passed_pooled, cleared_to_refused, cleared_to_fresh}
 use Rattle.heap.proofs.changing.clear_to.Goals as goal
 
-pub returns-then-code-ne0 : goal.returns-then-code-ne0
-unfolding cleared_to
-returns-then-code-ne0 c = stopped _ _ c.examine-code.ensures _ c.if-code-ne0.true
-
-pub returns-then-told-ne0 : goal.returns-then-told-ne0
-returns-then-told-ne0 c = cleared_to_malformed _ _ c.examine-code.ensures (state_typed _ (search rules) (search rules) (search rules) (λ j. search rules)) c.if-code-ne0.false _ _ _ c.key_code-told.ensures c.if-told-ne0.true
+pub returns-in-Err-clause-gives : goal.returns-in-Err-clause-gives
+unfolding told moves_answered
+returns-in-Err-clause-gives c =
+    let v = c.view.ensures in
+    rw (c.refused.ensures.told, c.refused.ensures.state) (cleared_to_refused (world_in c.args.state c.args.pool.now) _ _ _ (seen_to _ _ (seen c.args.state c.args.pool.now c.view.result v.keys v.values v.next v.back) c.in-Err.ensures))
 
 pub lay_fresh-requires : goal.lay_fresh-requires
-lay_fresh-requires c = passed_small _ _ c.examine-code.ensures (state_typed _ (search rules) (search rules) (search rules) (λ j. search rules)) c.if-code-ne0.false
+unfolding told
+lay_fresh-requires c =
+    let v = c.view.ensures in
+    let t = none_told _ _ (seen_to _ _ (seen c.args.state c.args.pool.now c.view.result v.keys v.values v.next v.back) c.in_default.ensures) in
+    passed_small (world_in c.args.state c.args.pool.now) (state_typed _ (search rules) (search rules) (search rules) (λ j. search rules)) t.0
 
-pub overflow_cast-next : goal.overflow_cast-next
-overflow_cast-next c = omega (arith, passed_small _ _ c.examine-code.ensures (state_typed _ (search rules) (search rules) (search rules) (λ j. search rules)) c.if-code-ne0.false)
-
-pub returns : goal.returns
-returns c =
-    let l = c.lay_fresh.ensures in
-    cleared_to_fresh _ _ c.examine-code.ensures (state_typed _ (search rules) (search rules) (search rules) (λ j. search rules)) c.if-code-ne0.false _ _ _ _ _ _ _ (sym c.key_code-told.ensures ∙ c.if-told-ne0.false) (l.keys_after, (l.values_after, (l.next_after, l.back_after))) c.fresh_state.ensures
+pub returns-clause-gives : goal.returns-clause-gives
+unfolding told moves_answered
+returns-clause-gives c =
+    let v = c.view.ensures in
+    let t = none_told _ _ (seen_to _ _ (seen c.args.state c.args.pool.now c.view.result v.keys v.values v.next v.back) c.in_default.ensures) in
+    cleared_to_fresh (world_in c.args.state c.args.pool.now) (state_typed _ (search rules) (search rules) (search rules) (λ j. search rules)) t.0 c.args.key _ t.1 (c.lay_fresh.ensures.fresh (passed_pooled (world_in c.args.state c.args.pool.now) (state_typed _ (search rules) (search rules) (search rules) (λ j. search rules)) t.0))

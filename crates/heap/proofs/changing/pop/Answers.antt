@@ -1,25 +1,27 @@
 -- `heap::changing::pop` meets its contract: it is stopped by the examination, or what the engine does is the pop. Assumes nothing.
-use mathlib.Core.Path.{ap, ◌∙◌}
 use borrow.Author.Rules.{rules}
 use Rattle.pool.proofs.Fine.{whole_ready}
 use Rattle.pool.proofs.CodeState.{state_typed}
-use Rattle.heap.specs.Answers.{pop_answered}
+use Rattle.engine.specs.Answers.{pop_answered}
 use Rattle.heap.specs.Calls.{popped}
-use Rattle.heap.proofs.CodeChecked.{stopped, passed_whole}
-use Rattle.heap.proofs.CodeCalls.{popped_given}
+use Rattle.heap.proofs.CodeChecked.{viewed, stops, sound_pool}
+use Rattle.heap.proofs.CodeCalls.{popped_is}
 use Rattle.heap.proofs.changing.pop.Goals as goal
 
-pub returns-then-code-ne0 : goal.returns-then-code-ne0
+pub returns-in-Err-clause-gives : goal.returns-in-Err-clause-gives
 unfolding popped pop_answered
-returns-then-code-ne0 c = stopped _ _ c.examine-code.ensures _ c.if-code-ne0.true
+returns-in-Err-clause-gives c =
+    let v = c.view.ensures in
+    rw (c.refused.ensures.told, c.refused.ensures.state) (stops _ _ (viewed c.args.state c.args.pool.now c.view.result v.keys v.values v.next v.back c.in-Err.ensures) _)
 
-pub pop-r-requires : goal.pop-r-requires
-pop-r-requires c =
-    let w = passed_whole _ _ c.examine-code.ensures (state_typed _ (search rules) (search rules) (search rules) (λ j. search rules)) c.if-code-ne0.false in
-    record { reads = c.kind_masks-masks.ensures; ready = whole_ready w }
+pub pop-told-requires : goal.pop-told-requires
+pop-told-requires c =
+    let v = c.view.ensures in
+    let w = sound_pool _ _ (viewed c.args.state c.args.pool.now c.view.result v.keys v.values v.next v.back c.in_default.ensures) (state_typed _ (search rules) (search rules) (search rules) (λ j. search rules)) in
+    rw c.of-engine.ensures (whole_ready w)
 
-pub returns : goal.returns
-returns c =
-    let w = passed_whole _ _ c.examine-code.ensures (state_typed _ (search rules) (search rules) (search rules) (λ j. let g = c.well_formed in search rules)) c.if-code-ne0.false in
-    ap (pop_answered _ _ _) c.given_if-given.ensures
-    ∙ popped_given w _ _ _ _ _ _ c.pop-r.ensures
+pub returns-clause-gives : goal.returns-clause-gives
+returns-clause-gives c =
+    let v = c.view.ensures in
+    let w = sound_pool _ _ (viewed c.args.state c.args.pool.now c.view.result v.keys v.values v.next v.back c.in_default.ensures) (state_typed _ (search rules) (search rules) (search rules) (λ j. let g = c.well_formed in search rules)) in
+    popped_is w (rw c.of-engine.ensures at c.pop-told.ensures.gives)

@@ -12,10 +12,10 @@ ones-requires c =
     let e = c.bits-b.ensures.0 in
     (omega arith, omega arith)
 
-pub returns-then-sort-eq2 : goal.returns-then-sort-eq2
-returns-then-sort-eq2 c =
+pub returns-in-2 : goal.returns-in-2
+returns-in-2 c =
     let code = c.args.code in
-    c.ones.ensures ∙ ap (λ (b : ℕ). 2 ^ b - 1) c.bits-b.ensures.0 ∙ sym (flip_reversed code (code_bits code) c.if-sort-eq2.true)
+    c.ones.ensures ∙ ap (λ (b : ℕ). 2 ^ b - 1) c.bits-b.ensures.0 ∙ sym (flip_reversed code (code_bits code) c.in-2.is)
 
 pub overflow_sub-result : goal.overflow_sub-result
 overflow_sub-result c =
@@ -29,13 +29,13 @@ overflow_shl-result c =
     let e = c.bits-b.ensures.0 in
     omega arith
 
-pub returns-then-sort-eq1 : goal.returns-then-sort-eq1
-returns-then-sort-eq1 c =
+pub returns-in-1 : goal.returns-in-1
+returns-in-1 c =
     let code = c.args.code in
     let p = part_bits code c.requires in
-    ap (λ (b : ℕ). 1 * 2 ^ (b - 1) % 2 ^ 64) c.bits-b.ensures.0 ∙ sym (flip_signed code (code_bits code) c.if-sort-eq2.false c.if-sort-eq1.true (omega arith) p.1)
+    ap (λ (b : ℕ). 1 * 2 ^ (b - 1) % 2 ^ 64) c.bits-b.ensures.0 ∙ sym (flip_signed code (code_bits code) (λ f. omega arith) c.in-1.is (omega arith) p.1)
 
-pub returns : goal.returns
-returns c =
+pub returns-in_default : goal.returns-in_default
+returns-in_default c =
     let code = c.args.code in
-    sym (flip_plain code (code_bits code) c.if-sort-eq2.false c.if-sort-eq1.false)
+    sym (flip_plain code (code_bits code) (λ f. omega arith) (λ f. omega arith))

@@ -1,6 +1,5 @@
 -- `keys::packing::pack` meets its contract.
 use mathlib.Core.Path.{sym, ◌∙◌}
-use Rattle.keys.proofs.Packed.{packed_unfit}
 use Rattle.keys.proofs.packing.pack.Goals as goal
 
 pub returns-then-not-parts_fit : goal.returns-then-not-parts_fit
@@ -8,7 +7,7 @@ returns-then-not-parts_fit c =
     let a = c.args in
     let f = c.parts_fit in
     let no = sym f.ensures ∙ c.if-not-parts_fit.true in
-    (sym no, sym (packed_unfit a.table a.parts no))
+    record { fits = sym no; key = tt }
 
 pub join-requires : goal.join-requires
 join-requires c =
@@ -18,4 +17,4 @@ join-requires c =
 pub returns : goal.returns
 returns c =
     let f = c.parts_fit in
-    (sym (sym f.ensures ∙ c.if-not-parts_fit.false), c.join.ensures)
+    record { fits = sym (sym f.ensures ∙ c.if-not-parts_fit.false); key = c.join.ensures }

@@ -11,8 +11,8 @@ returns-then-b-eq0 c =
     let b = c.bits-b in
     none_below a.code a.part b.result b.ensures.0 c.requires.part_bound (pair_form a.key.0 a.key.1) c.if-b-eq0.true
 
-pub shifted-words-requires : goal.shifted-words-requires
-shifted-words-requires c =
+pub shifted-high-requires : goal.shifted-high-requires
+shifted-high-requires c =
     let a = c.args in
     let b = c.bits-b in
     let p = c.requires in
@@ -21,4 +21,4 @@ shifted-words-requires c =
 pub returns : goal.returns
 returns c =
     let a = c.args in
-    c.shifted-words.ensures ∙ ap (λ (n : ℕ). pair_form a.key.0 a.key.1 * 2 ^ n + a.part) c.bits-b.ensures.0
+    c.shifted-high.ensures ∙ ap (λ (n : ℕ). pair_form a.key.0 a.key.1 * 2 ^ n + a.part) c.bits-b.ensures.0

@@ -14,4 +14,4 @@ returns-then-b-eq0 c =
 pub returns : goal.returns
 returns c =
     let a = c.args in
-    c.shifted_down-words.ensures ∙ ap (λ (n : ℕ). pair_form a.key.0 a.key.1 / 2 ^ n) c.bits-b.ensures.0
+    c.shifted_down-high.ensures ∙ ap (λ (n : ℕ). pair_form a.key.0 a.key.1 / 2 ^ n) c.bits-b.ensures.0

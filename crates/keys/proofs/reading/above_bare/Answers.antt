@@ -1,53 +1,54 @@
 -- `keys::reading::above_bare` meets its contract: each arm compares the ordered forms of its kind.
-use mathlib.Core.Path.{ap, ap₂, ◌∙◌}
+use mathlib.Core.Path.{ap₂, ◌∙◌}
 use lib.Dec.{ltb}
-use Rattle.keys.specs.Parts.{unsigned, reversed, formed}
-use Rattle.keys.specs.Floats.{float_form}
 use Rattle.keys.specs.Ordered.{pair_form}
+use Rattle.keys.proofs.Names.{signed_is, reversed_is, pair_is, float_is, not_signed, not_reversed, not_pair, not_float}
 use Rattle.keys.proofs.Ordered.{as_signed, as_reversed, as_pair, as_float, as_plain}
 use borrow.Author.Rules.{rules}
 use Rattle.keys.proofs.reading.above_bare.Goals as goal
 
-pub returns-in-2 : goal.returns-in-2
-returns-in-2 c =
+pub returns-in-Signed : goal.returns-in-Signed
+returns-in-Signed c =
     let x = c.args in
-    let e = c.in-2.is in
+    let e = signed_is _ c.in-Signed.ensures in
     c.above.ensures
-    ∙ ap₂ ltb (as_signed x.kind _ x.b0 x.b1 (search rules) e c.from_word-in-2.ensures) (as_signed x.kind _ x.a0 x.a1 (search rules) e c.from_word.ensures)
+    ∙ ap₂ ltb (as_signed x.kind _ x.b.first x.b.second (search rules) e c.from-in-Signed.ensures) (as_signed x.kind _ x.a.first x.a.second (search rules) e c.from.ensures)
 
-pub returns-in-3 : goal.returns-in-3
-returns-in-3 c =
+pub returns-in-Reversed : goal.returns-in-Reversed
+returns-in-Reversed c =
     let x = c.args in
-    let e = c.in-3.is in
-    c.above-in-3.ensures
-    ∙ ap₂ ltb (ap (formed 64 reversed) c.from_word-in-3-2.ensures ∙ as_reversed x.kind x.b0 x.b1 (search rules) e)
-    (ap (formed 64 reversed) c.from_word-in-3.ensures ∙ as_reversed x.kind x.a0 x.a1 (search rules) e)
+    let e = reversed_is _ c.in-Reversed.ensures in
+    c.above-in-Reversed.ensures
+    ∙ ap₂ ltb (as_reversed x.kind x.b.first x.b.second (search rules) e) (as_reversed x.kind x.a.first x.a.second (search rules) e)
 
-pub returns-in-4 : goal.returns-in-4
-returns-in-4 c =
+pub returns-in-Pair : goal.returns-in-Pair
+returns-in-Pair c =
     let x = c.args in
-    let e = c.in-4.is in
-    let p = c.from_words.ensures in
-    let q = c.from_words-in-4.ensures in
-    c.above-in-4.ensures
-    ∙ ap₂ ltb (ap₂ pair_form q.0 q.1 ∙ as_pair x.kind x.b0 x.b1 (search rules) (search rules) e)
-    (ap₂ pair_form p.0 p.1 ∙ as_pair x.kind x.a0 x.a1 (search rules) (search rules) e)
+    let e = pair_is _ c.in-Pair.ensures in
+    let p = c.from-in-Pair.ensures in
+    let q = c.from-in-Pair-2.ensures in
+    c.above-in-Pair.ensures
+    ∙ ap₂ ltb (ap₂ pair_form q.0 q.1 ∙ as_pair x.kind x.b.first x.b.second (search rules) (search rules) e)
+    (ap₂ pair_form p.0 p.1 ∙ as_pair x.kind x.a.first x.a.second (search rules) (search rules) e)
 
-pub returns-in-6 : goal.returns-in-6
-returns-in-6 c =
+pub returns-in-Float : goal.returns-in-Float
+returns-in-Float c =
     let x = c.args in
-    let e = c.in-6.is in
-    c.above-in-6.ensures
-    ∙ ap₂ ltb (ap float_form c.from_word-in-6-2.ensures ∙ as_float x.kind x.b0 x.b1 e) (ap float_form c.from_word-in-6.ensures ∙ as_float x.kind x.a0 x.a1 e)
+    let e = float_is _ c.in-Float.ensures in
+    c.above-in-Float.ensures
+    ∙ ap₂ ltb (as_float x.kind x.b.first x.b.second e) (as_float x.kind x.a.first x.a.second e)
 
 pub returns-in_default : goal.returns-in_default
 returns-in_default c =
     let x = c.args in
-    let r = c.in_default.in_default-own.rest in
-    let two = r.0.0.0.1 in
-    let three = r.0.0.1 in
-    let four = r.0.1 in
+    let n = x.kind.number in
+    let e = c.name.ensures in
+    let r = c.in_default in
+    let two = not_signed n e r.not-Signed in
+    let three = not_reversed n e r.not-Reversed in
+    let four = not_pair n e r.not-Pair in
+    let six = not_float n e r.not-Float in
     let five = c.requires in
     c.above-in_default.ensures
-    ∙ ap₂ ltb (ap (formed 64 unsigned) c.from_word-in_default-2.ensures ∙ as_plain x.kind x.b0 x.b1 (search rules) two three four five r.1)
-    (ap (formed 64 unsigned) c.from_word-in_default.ensures ∙ as_plain x.kind x.a0 x.a1 (search rules) two three four five r.1)
+    ∙ ap₂ ltb (as_plain x.kind x.b.first x.b.second (search rules) two three four five six)
+    (as_plain x.kind x.a.first x.a.second (search rules) two three four five six)

@@ -1,32 +1,18 @@
 -- `keys::table::is_part` meets its contract.
 use mathlib.Core.Path.{sym, ◌∙◌}
-use borrow.Author.Tests.{eq-eqb, ne_eqb}
+use native.Mathlib.Omega.{arith}
+use borrow.Author.Tests.{lt-leb}
+use Rattle.std.proofs.lemmas.Bool.Decides.{nat_tests}
 use Rattle.keys.proofs.Tables.{no_sort, by_bits}
 use Rattle.keys.proofs.table.is_part.Goals as goal
 
-pub returns-then-code-gt2 : goal.returns-then-code-gt2
-returns-then-code-gt2 c = sym (no_sort c.args.code c.if-code-gt2.true)
+pub returns-in-8 : goal.returns-in-8
+returns-in-8 c = sym (by_bits c.args.code c.bits.result c.if-code-le2.true c.bits.ensures.0 ∙ grind (arith, nat_tests))
 
-pub returns-then-b-eq8 : goal.returns-then-b-eq8
-returns-then-b-eq8 c =
-    let b = c.bits-b in
-    let e = by_bits c.args.code b.result c.if-code-gt2.false b.ensures.0 in
-    sym (e ∙ simp (eq-eqb b.result 8 c.if-b-eq8.true))
+pub returns-in_default : goal.returns-in_default
+returns-in_default c = sym (by_bits c.args.code c.bits.result c.if-code-le2.true c.bits.ensures.0 ∙ grind (arith, nat_tests))
 
-pub returns-then-b-eq16 : goal.returns-then-b-eq16
-returns-then-b-eq16 c =
-    let b = c.bits-b in
-    let e = by_bits c.args.code b.result c.if-code-gt2.false b.ensures.0 in
-    sym (e ∙ simp (ne_eqb b.result 8 c.if-b-eq8.false, eq-eqb b.result 16 c.if-b-eq16.true))
-
-pub returns-then-b-eq32 : goal.returns-then-b-eq32
-returns-then-b-eq32 c =
-    let b = c.bits-b in
-    let e = by_bits c.args.code b.result c.if-code-gt2.false b.ensures.0 in
-    sym (e ∙ simp (ne_eqb b.result 8 c.if-b-eq8.false, ne_eqb b.result 16 c.if-b-eq16.false, eq-eqb b.result 32 c.if-b-eq32.true))
-
-pub returns : goal.returns
-returns c =
-    let b = c.bits-b in
-    let e = by_bits c.args.code b.result c.if-code-gt2.false b.ensures.0 in
-    sym (e ∙ simp (ne_eqb b.result 8 c.if-b-eq8.false, ne_eqb b.result 16 c.if-b-eq16.false, ne_eqb b.result 32 c.if-b-eq32.false))
+pub returns-else-code-le2 : goal.returns-else-code-le2
+returns-else-code-le2 c =
+    let n = c.args.code in
+    lt-leb _ 2 c.if-code-le2.false ∙ sym (no_sort n c.if-code-le2.false)

@@ -1,37 +1,32 @@
 -- `keys::table::table_fits` meets its contract: the limits are tested one by one.
-use mathlib.Core.Path.{sym, ap, ap₂, ◌∙◌}
-use Prim.Native.Nat.{ℕ, ◌+◌}
+use mathlib.Core.Path.{◌≡◌, sym, ap, ◌∙◌}
+use mathlib.Core.Bool.{Bool, ◌&&◌}
+use Prim.Native.Nat.{ℕ}
 use lib.Dec.{leb}
-use Rattle.keys.proofs.Tables.{unfit_first, unfit_second, unfit_gap, fits_two, unfit_third, fits_three, unfit_fourth, fits_four}
+use Rattle.keys.specs.Table.{is_part}
+use Rattle.keys.proofs.Tables.{and_then, and_else, fits_all, third}
 use Rattle.keys.proofs.table.table_fits.Goals as goal
+use Rattle.keys.proofs.table.table_fits.Goals.{Joined-is_part-2, then-is_part, else-is_part, then-is_part-2, else-is_part-2}
 
-pub returns-then-not-is_part : goal.returns-then-not-is_part
-returns-then-not-is_part c = sym (unfit_first c.args.table (sym c.is_part.ensures ∙ c.if-not-is_part.true))
+-- the tests so far, as one Boolean
+tested : (c : Joined-is_part-2) → c.if-is_part-2.value ≡ (is_part c.args.table.first && is_part c.args.table.second && third c.args.table)
+tested c =
+    let t = c.args.table in
+    let two : c.if-is_part.value ≡ (c.is_part.result && is_part t.second) = elim c.if-is_part.branch [
+      | then-is_part w ↦ and_then w.if-is_part.true (w.value-is ∙ w.is_part-then-is_part.ensures)
+      | else-is_part w ↦ and_else _ w.if-is_part.false w.value-is
+    ] in
+    let all : c.if-is_part-2.value ≡ (c.if-is_part.value && third t) = elim c.if-is_part-2.branch [
+      | then-is_part-2 w ↦ and_then w.if-is_part-2.true (w.value-is ∙ w.later_fit.ensures)
+      | else-is_part-2 w ↦ and_else _ w.if-is_part-2.false w.value-is
+    ] in
+    all ∙ ap (λ (x : Bool). x && third t) (two ∙ ap (λ (x : Bool). x && is_part t.second) c.is_part.ensures)
 
-pub returns-then-not-is_part-2 : goal.returns-then-not-is_part-2
-returns-then-not-is_part-2 c = sym (unfit_second c.args.table (sym c.is_part.ensures ∙ c.if-not-is_part.false) (sym c.is_part-2.ensures ∙ c.if-not-is_part-2.true))
+pub returns-then-later_fit : goal.returns-then-later_fit
+returns-then-later_fit c =
+    and_then (sym (tested c.before.before) ∙ c.if-later_fit.true) (ap (λ (n : ℕ). leb n 128) c.total.ensures) ∙ sym (fits_all c.args.table)
 
-pub returns-then-table-ne0 : goal.returns-then-table-ne0
-returns-then-table-ne0 c = sym (unfit_gap c.args.table (sym c.is_part.ensures ∙ c.if-not-is_part.false) (sym c.is_part-2.ensures ∙ c.if-not-is_part-2.false) c.if-table-eq0.true c.if-table-ne0.true)
-
-pub returns-then-table-eq0 : goal.returns-then-table-eq0
-returns-then-table-eq0 c =
-    ap (λ (n : ℕ). leb n 128) (ap₂ ◌+◌ c.bits.ensures.0 c.bits-2.ensures.0)
-    ∙ sym (fits_two c.args.table (sym c.is_part.ensures ∙ c.if-not-is_part.false) (sym c.is_part-2.ensures ∙ c.if-not-is_part-2.false) c.if-table-eq0.true c.if-table-ne0.false)
-
-pub returns-then-not-is_part-3 : goal.returns-then-not-is_part-3
-returns-then-not-is_part-3 c = sym (unfit_third c.args.table (sym c.is_part.ensures ∙ c.if-not-is_part.false) (sym c.is_part-2.ensures ∙ c.if-not-is_part-2.false) c.if-table-eq0.false (sym c.is_part-3.ensures ∙ c.if-not-is_part-3.true))
-
-pub returns-then-table-eq0-2 : goal.returns-then-table-eq0-2
-returns-then-table-eq0-2 c =
-    ap (λ (n : ℕ). leb n 128) (ap₂ ◌+◌ (ap₂ ◌+◌ c.bits.ensures.0 c.bits-2.ensures.0) c.bits-3.ensures.0)
-    ∙ sym (fits_three c.args.table (sym c.is_part.ensures ∙ c.if-not-is_part.false) (sym c.is_part-2.ensures ∙ c.if-not-is_part-2.false) c.if-table-eq0.false (sym c.is_part-3.ensures ∙ c.if-not-is_part-3.false) c.if-table-eq0-2.true)
-
-pub returns-then-not-is_part-4 : goal.returns-then-not-is_part-4
-returns-then-not-is_part-4 c =
-    sym (unfit_fourth c.args.table (sym c.is_part.ensures ∙ c.if-not-is_part.false) (sym c.is_part-2.ensures ∙ c.if-not-is_part-2.false) c.if-table-eq0.false (sym c.is_part-3.ensures ∙ c.if-not-is_part-3.false) c.if-table-eq0-2.false (sym c.is_part-4.ensures ∙ c.if-not-is_part-4.true))
-
-pub returns : goal.returns
-returns c =
-    ap (λ (n : ℕ). leb n 128) (ap₂ ◌+◌ (ap₂ ◌+◌ (ap₂ ◌+◌ c.bits.ensures.0 c.bits-2.ensures.0) c.bits-3.ensures.0) c.bits-4.ensures.0)
-    ∙ sym (fits_four c.args.table (sym c.is_part.ensures ∙ c.if-not-is_part.false) (sym c.is_part-2.ensures ∙ c.if-not-is_part-2.false) c.if-table-eq0.false (sym c.is_part-3.ensures ∙ c.if-not-is_part-3.false) c.if-table-eq0-2.false (sym c.is_part-4.ensures ∙ c.if-not-is_part-4.false))
+pub returns-else-later_fit : goal.returns-else-later_fit
+returns-else-later_fit c =
+    let e = tested c.before in
+    and_else _ (sym e ∙ c.if-later_fit.false) e ∙ sym (fits_all c.args.table)

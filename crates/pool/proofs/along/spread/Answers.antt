@@ -1,14 +1,14 @@
--- `pool::along::spread` meets its contract. The loop's invariant: what is left to move from here leads to what there was to do at the start.
+-- `pool::spread` meets its contract. The loop's invariant: what is left to move from here leads to what there was to do at the start.
 use Prim.Native.Nat.{ℕ, ◌-◌}
-use mathlib.Core.Path.{◌≡◌, sym, ap, subst, ◌∙◌}
+use mathlib.Core.Path.{◌≡◌, refl, sym, ap, subst, ◌∙◌}
 use mathlib.Core.List.{List}
 use native.Mathlib.Omega.{arith}
 use native.Mathlib.Nat.{sub-zero}
 use lib.ListN.{length, get_or, set}
-use borrow.Author.Rules.{rules}
 use Rattle.keys.specs.declared.kind.Kind.{Kind}
 use Rattle.keys.specs.Ordered.{ordered}
 use Rattle.pool.specs.World.{Links, links, slot_key}
+use Rattle.pool.specs.Lent.{links_at}
 use Rattle.pool.specs.Marks.{unmarked}
 use Rattle.pool.specs.Fine.{FineAt}
 use Rattle.pool.specs.Core.{emptied, drain_from, drain_chain}
@@ -27,46 +27,54 @@ whole : (kind : Kind) (keys : List ℕ) (top : ℕ) (s : Links) (c : ℕ) {b : L
 unfolding drain_chain
 whole kind keys top s c e = ap (drain_from (length s.next) kind keys top (get_or s.first c 0) 0) (sym (begun s c e))
 
-pub loop-moves-init : goal.loop-moves-init
-loop-moves-init c =
+pub loop-init : goal.loop-init
+loop-init c =
     let x = c.args in
-    let s : Links = links x.first.now x.last.now x.next.now x.back.now x.busy.now in
+    let s : Links = links_at x.state.now x.next.now x.back.now in
     record {
-      turns = search rules;
+      turns' = refl;
       link = c.requires.fine.first.at x.chain;
       fine = subst (FineAt (length x.next.now)) (sym (begun s x.chain c.unmark.ensures)) (emptied_fine _ _ x.chain c.requires.fine);
+      head = refl;
       same = simp sub-zero;
     }
 
 pub append-requires-clause-chain_bound : goal.append-requires-clause-chain_bound
 append-requires-clause-chain_bound c =
     let x = c.args in
-    omega (arith, far_lt x.kind (slot_key x.kind x.keys.now (c.loop-moves.at - 1)) (ordered x.kind x.top0 x.top1), c.slot_distance-d.ensures)
+    omega (arith, far_lt x.reader.kind (slot_key x.reader.kind x.keys.now (c.loop.at - 1)) (ordered x.reader.kind x.top.first x.top.second), c.slot_distance-bucket.ensures)
 
-pub loop-moves-preserved : goal.loop-moves-preserved
-loop-moves-preserved c =
-    let l = c.loop-moves in
+pub loop-preserved : goal.loop-preserved
+loop-preserved c =
+    let l = c.loop in
     let x = c.args in
     let n = length x.next.now in
-    let top = ordered x.kind x.top0 x.top1 in
-    let t : Links = links l.first l.last l.next l.back l.busy in
+    let top = ordered x.reader.kind x.top.first x.top.second in
+    let t : Links = links_at l.state l.next l.back in
     record {
-      turns = omega arith;
+      turns' = omega arith;
       link = l.invariant.fine.next.at (l.at - 1);
-      fine = subst (FineAt n) (sym c.append.ensures) (appended_fine n t _ _ l.invariant.fine (omega arith));
-      same = l.invariant.same ∙ drain_turn x.kind x.keys.now top l.at l.moves t n _ _ (omega arith) c.if-at-eq0.false c.slot_distance-d.ensures c.append.ensures;
+      fine = subst (FineAt n) (sym c.append.ensures.links) (appended_fine n t _ _ l.invariant.fine (omega arith));
+      head = c.append.ensures.head ∙ l.invariant.head;
+      same = l.invariant.same ∙ drain_turn x.reader.kind x.keys.now top l.at l.moves t n _ _ (omega arith) c.if-at-eq0.false c.slot_distance-bucket.ensures c.append.ensures.links;
     }
 
-pub returns-after-loop-moves : goal.returns-after-loop-moves
-returns-after-loop-moves c =
-    let l = c.loop-moves in
+pub returns-after-loop : goal.returns-after-loop
+returns-after-loop c =
+    let l = c.loop in
     let x = c.args in
-    let s : Links = links x.first.now x.last.now x.next.now x.back.now x.busy.now in
-    sym (whole x.kind x.keys.now (ordered x.kind x.top0 x.top1) s x.chain c.unmark.ensures ∙ l.invariant.same ∙ drain_end x.kind x.keys.now _ l.at l.moves _ (length x.next.now - l.moves) (omega arith))
+    let s : Links = links_at x.state.now x.next.now x.back.now in
+    record {
+      head = l.invariant.head;
+      moved = sym (whole x.reader.kind x.keys.now (ordered x.reader.kind x.top.first x.top.second) s x.chain c.unmark.ensures ∙ l.invariant.same ∙ drain_end x.reader.kind x.keys.now _ l.at l.moves _ (length x.next.now - l.moves) (omega arith));
+    }
 
 pub returns-then-at-eq0 : goal.returns-then-at-eq0
 returns-then-at-eq0 c =
-    let l = c.loop-moves in
+    let l = c.loop in
     let x = c.args in
-    let s : Links = links x.first.now x.last.now x.next.now x.back.now x.busy.now in
-    sym (whole x.kind x.keys.now (ordered x.kind x.top0 x.top1) s x.chain c.unmark.ensures ∙ l.invariant.same ∙ drain_stop x.kind x.keys.now _ l.at l.moves _ (length x.next.now - l.moves) c.if-at-eq0.true)
+    let s : Links = links_at x.state.now x.next.now x.back.now in
+    record {
+      head = l.invariant.head;
+      moved = sym (whole x.reader.kind x.keys.now (ordered x.reader.kind x.top.first x.top.second) s x.chain c.unmark.ensures ∙ l.invariant.same ∙ drain_stop x.reader.kind x.keys.now _ l.at l.moves _ (length x.next.now - l.moves) c.if-at-eq0.true);
+    }

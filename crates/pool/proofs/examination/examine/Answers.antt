@@ -1,72 +1,51 @@
--- `pool::examination::examine` meets its contract: each way out, by the tests that led there. Assumes nothing.
-use mathlib.Core.Path.{◌≡◌, sym, ◌∙◌}
-use mathlib.Core.Bool.{true}
-use native.Mathlib.Omega.{arith}
-use Rattle.pool.specs.World.{world_of}
-use Rattle.pool.specs.Examine.{fitting, examined, finish}
-use Rattle.pool.specs.Sound.{limit}
+-- `pool::examination::examine` meets its contract: each way out, by the tests that led there.
+use Rattle.std.proofs.Common.{◌≡◌, Bool, true, cond, length, sym, ap, ◌∙◌}
+use Rattle.pool.specs.Sound.{Fit, limit}
+use Rattle.pool.specs.World.{World}
+use Rattle.pool.specs.Lent.{world_seen}
+use Rattle.pool.specs.Codes.{told}
+use Rattle.pool.specs.Examine.{fits}
 use Rattle.pool.proofs.Exam.{fitting_fit}
 use Rattle.pool.proofs.Fine.{fit_room}
-use Rattle.pool.proofs.CodeExam.{fitting_is, unfit_code, unheaded_code, headed_code, scan_few, finish_refused, finish_miscounted, finish_unfree, finish_sound}
+use Rattle.pool.proofs.CodeExam.{fitting_is, unfit_code, unheaded_code, headed_code}
+use Rattle.pool.proofs.examination.examine.Goals.{else-top_is_plain-via-then-top_is_plain+else-stands, else-top_is_plain-via-else-top_is_plain}
 use Rattle.pool.proofs.examination.examine.Goals as goal
 
--- each test's outcome is carried to the world that was handed in
+-- the test, passed, is that of the world handed in
+fit : (w : World) → {b : Bool} → b ≡ fits w.head.kind (length w.keys) (length w.values) (length w.links.next) (length w.links.back) → b ≡ true → Fit w
+fit w e t = fitting_fit w (fitting_is w ∙ sym e ∙ t)
+
 pub returns-then-not-fits : goal.returns-then-not-fits
-returns-then-not-fits c = sym (unfit_code _ (fitting_is _ ∙ sym c.fits.ensures ∙ c.if-not-fits.true))
+unfolding told
+returns-then-not-fits c = let w = world_seen c.args.state.now c.args.view in sym (unfit_code w (fitting_is w ∙ sym c.fits.ensures ∙ c.if-not-fits.true))
 
-pub returns-then-not-top_is_plain : goal.returns-then-not-top_is_plain
-returns-then-not-top_is_plain c =
-    let w = world_of c.args.state c.args.keys.now c.args.values.now c.args.next.now c.args.back.now in
-    let fit : fitting w ≡ true = fitting_is w ∙ sym c.fits.ensures ∙ c.if-not-fits.false in
-    sym (unheaded_code w fit (sym c.top_is_plain.ensures ∙ c.if-not-top_is_plain.true))
+pub stands-requires-clause-room : goal.stands-requires-clause-room
+stands-requires-clause-room c = fit_room (fit (world_seen c.args.state.now c.args.view) c.fits.ensures c.if-not-fits.false)
 
-pub walk_all-left-requires : goal.walk_all-left-requires
-walk_all-left-requires c =
-    let w = world_of c.args.state c.args.keys.now c.args.values.now c.args.next.now c.args.back.now in
-    let fit : fitting w ≡ true = fitting_is w ∙ sym c.fits.ensures ∙ c.if-not-fits.false in
-    let f = fitting_fit w fit in
-    record { room = fit_room f; back_len = f.some_backs }
+pub stands-requires-clause-values_len : goal.stands-requires-clause-values_len
+stands-requires-clause-values_len c = (fit (world_seen c.args.state.now c.args.view) c.fits.ensures c.if-not-fits.false).some_values
 
-pub returns-then-left-eq0 : goal.returns-then-left-eq0
-returns-then-left-eq0 c =
-    let w = world_of c.args.state c.args.keys.now c.args.values.now c.args.next.now c.args.back.now in
-    let fit : fitting w ≡ true = fitting_is w ∙ sym c.fits.ensures ∙ c.if-not-fits.false in
-    let code : examined w ≡ finish w c.walk_all-left.result = headed_code w fit (sym c.top_is_plain.ensures ∙ c.if-not-top_is_plain.false) c.walk_all-left.ensures in
-    sym (code ∙ finish_refused w _ c.if-left-eq0.true)
+pub stands-requires-clause-back_len : goal.stands-requires-clause-back_len
+stands-requires-clause-back_len c = (fit (world_seen c.args.state.now c.args.view) c.fits.ensures c.if-not-fits.false).some_backs
 
-pub overflow_add-left : goal.overflow_add-left
+pub stands-requires-clause-small : goal.stands-requires-clause-small
 unfolding limit
-overflow_add-left c =
-    let w = world_of c.args.state c.args.keys.now c.args.values.now c.args.next.now c.args.back.now in
-    let fit : fitting w ≡ true = fitting_is w ∙ sym c.fits.ensures ∙ c.if-not-fits.false in
-    omega (arith, scan_few w c.walk_all-left.ensures, (fitting_fit w fit).small)
+stands-requires-clause-small c = (fit (world_seen c.args.state.now c.args.view) c.fits.ensures c.if-not-fits.false).small
 
-pub returns-then-left-head : goal.returns-then-left-head
-returns-then-left-head c =
-    let w = world_of c.args.state c.args.keys.now c.args.values.now c.args.next.now c.args.back.now in
-    let fit : fitting w ≡ true = fitting_is w ∙ sym c.fits.ensures ∙ c.if-not-fits.false in
-    let code : examined w ≡ finish w c.walk_all-left.result = headed_code w fit (sym c.top_is_plain.ensures ∙ c.if-not-top_is_plain.false) c.walk_all-left.ensures in
-    sym (code ∙ finish_miscounted w c.if-left-eq0.false c.if-left-head.true)
-
-pub walk_free-requires : goal.walk_free-requires
-walk_free-requires c =
-    let w = world_of c.args.state c.args.keys.now c.args.values.now c.args.next.now c.args.back.now in
-    let fit : fitting w ≡ true = fitting_is w ∙ sym c.fits.ensures ∙ c.if-not-fits.false in
-    let f = fitting_fit w fit in
-    record { room = fit_room f; values_len = f.some_values; back_len = f.some_backs; budget_in_bounds = omega (arith, scan_few w c.walk_all-left.ensures) }
-
-pub returns-then-walk_free-ne1 : goal.returns-then-walk_free-ne1
-returns-then-walk_free-ne1 c =
-    let s = c.args.state in
-    let w = world_of c.args.state c.args.keys.now c.args.values.now c.args.next.now c.args.back.now in
-    let fit : fitting w ≡ true = fitting_is w ∙ sym c.fits.ensures ∙ c.if-not-fits.false in
-    let code : examined w ≡ finish w c.walk_all-left.result = headed_code w fit (sym c.top_is_plain.ensures ∙ c.if-not-top_is_plain.false) c.walk_all-left.ensures in
-    sym (code ∙ finish_unfree w c.if-left-eq0.false c.if-left-head.false (c.walk_free.ensures s.first s.last s.busy) c.if-walk_free-ne1.true)
+pub returns-then-stands : goal.returns-then-stands
+unfolding told
+returns-then-stands c =
+    let w = world_seen c.args.state.now c.args.view in
+    let f = fitting_is w ∙ sym c.fits.ensures ∙ c.if-not-fits.false in
+    sym (headed_code w f (sym c.top_is_plain.ensures ∙ c.if-top_is_plain.true) ∙ sym c.stands.ensures ∙ ap (λ (b : Bool). cond b 0 2) c.if-stands.true)
 
 pub returns : goal.returns
+unfolding told
 returns c =
-    let s = c.args.state in
-    let w = world_of c.args.state c.args.keys.now c.args.values.now c.args.next.now c.args.back.now in
-    let fit : fitting w ≡ true = fitting_is w ∙ sym c.fits.ensures ∙ c.if-not-fits.false in
-    let code : examined w ≡ finish w c.walk_all-left.result = headed_code w fit (sym c.top_is_plain.ensures ∙ c.if-not-top_is_plain.false) c.walk_all-left.ensures in
-    sym (code ∙ finish_sound w c.if-left-eq0.false c.if-left-head.false (c.walk_free.ensures s.first s.last s.busy) c.if-walk_free-ne1.false)
+    let w = world_seen c.args.state.now c.args.view in
+    let f = fitting_is w ∙ sym c.fits.ensures ∙ c.if-not-fits.false in
+    elim c.else-top_is_plain.branch [
+      | else-top_is_plain-via-then-top_is_plain+else-stands d ↦
+          sym (headed_code w f (sym c.top_is_plain.ensures ∙ d.if-top_is_plain.true) ∙ sym d.stands.ensures ∙ ap (λ (b : Bool). cond b 0 2) d.if-stands.false)
+      | else-top_is_plain-via-else-top_is_plain d ↦ sym (unheaded_code w f (sym c.top_is_plain.ensures ∙ d.if-top_is_plain.false))
+    ]

@@ -1,12 +1,9 @@
--- `pool::examination::walk_all` meets its contract. The loop's invariant: what is left of the scan gives what the whole scan gives, and
--- the words seen are those of the chains walked. The measure is the number of chains to come. Assumes nothing.
-use Prim.Native.Nat.{◌-◌}
-use Rattle.pool.specs.World.{free_chain, links}
+-- What the loop of `pool::examination::walk_all` keeps: what is left of the scan gives what the whole scan gives, and the words seen are
+-- those of the chains walked.
+use Rattle.pool.specs.World.{free_chain}
+use Rattle.pool.specs.Lent.{links_at}
 use Rattle.pool.proofs.CodeExam.{Scan}
 use Rattle.pool.proofs.examination.walk_all.Given as goal
 
 abbrev pub invariant-loop-c : goal.invariant-loop-c
-invariant-loop-c l = Scan l.head (links l.first l.last l.next l.back l.busy) l.keys free_chain l.left l.c l.seen
-
-abbrev pub decreases-loop-c : goal.decreases-loop-c
-decreases-loop-c l = free_chain - l.c
+invariant-loop-c l = Scan l.state.head (links_at l.state l.view.next.now l.view.back.now) l.view.keys.now free_chain l.left l.c l.seen

@@ -1,16 +1,16 @@
--- `fresh::chain_up` meets its contract. At the loop's head the links before `i` are those of the fresh free chain; the measure is what is left of `n`.
+-- `fresh::chain_up` meets its contract. At the loop's head the links before `at` are those of the fresh free chain.
 use native.Mathlib.Omega.{arith}
 use Rattle.pool.proofs.CodeFresh.{chained_start, chained_on, chained_last, filled_end}
-use Rattle.pool.proofs.fresh.chain_up.Goals.{then-i-n, else-i-n}
 use Rattle.pool.proofs.fresh.chain_up.Goals as goal
+use Rattle.pool.proofs.fresh.chain_up.Goals.{then-at-n, else-at-n}
 
-pub loop-i-init : goal.loop-i-init
-loop-i-init c = chained_start c.args.next.now
+pub loop-at-init : goal.loop-at-init
+loop-at-init c = chained_start c.args.next.now
 
-pub loop-i-preserved : goal.loop-i-preserved
-loop-i-preserved c =
-    let f = c.loop-i.invariant in
-    elim c.if-i-n.branch [ then-i-n w ↦ chained_on _ f (omega arith) w.next-is | else-i-n w ↦ chained_last _ f (omega arith) w.next-is ]
+pub loop-at-preserved : goal.loop-at-preserved
+loop-at-preserved c =
+    let f = c.loop-at.invariant in
+    elim c.if-at-n.branch [ then-at-n w ↦ chained_on _ f (omega arith) (omega (arith, w.next-is)) | else-at-n w ↦ chained_last _ f (omega arith) w.next-is ]
 
 pub returns : goal.returns
-returns c = filled_end c.loop-i.invariant (omega arith)
+returns c = filled_end c.loop-at.invariant (omega arith)

@@ -1,9 +1,0 @@
--- `engine::pushing::place` meets its contract: `place_in`, by the test of the top.
-use Rattle.engine.proofs.CodePush.{place_top, place_none}
-use Rattle.engine.proofs.pushing.place.Goals as goal
-
-pub returns-then-head : goal.returns-then-head
-returns-then-head c = place_top _ _ _ _ c.if-head.true c.distance_by.ensures
-
-pub returns : goal.returns
-returns c = place_none _ _ _ c.if-head.false

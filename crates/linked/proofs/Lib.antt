@@ -1,0 +1,2 @@
+-- Told: what a batch was told, in numbers.
+pub mod Told
