@@ -7,7 +7,8 @@ use crate::bytes::read_word;
 use keys::{Reader, Words};
 use pool::{Entry, Refusal};
 
-// `rest` says whether bytes 1 to 7 are zero.
+// A record as its bytes say it: any byte may stand for the operation, so it is a number here, and `rest`
+// says whether bytes 1 to 7 are zero. What it asks for is an `Operation`.
 #[derive(Clone, Copy)]
 pub struct Record {
     pub op: u8,

@@ -153,6 +153,7 @@ pub fn each_bit_of_a_key(rt: &impl Print) -> io::Result<()> {
     Ok(())
 }
 
+// The same of the top; a parameter for what is turned over would need a clause longer than the loop.
 pub fn each_bit_of_a_top(rt: &impl Print) -> io::Result<()> {
     for (total, table) in tables() {
         let refused = unsound(128, |bit| in_the_top(table, bit));

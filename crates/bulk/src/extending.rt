@@ -85,7 +85,7 @@ pub fn extend(state: State, pool: &mut Pool, entries: &[Entry]) -> Answer<(), St
     extend_by(state, pool, &entries)
 }
 
-// The same of entries that lie in three slices: entry i is `keys0[i]`, `keys1[i]`, `values[i]`, for i
+// The same of entries that lie in three slices, for callers whose fields lie apart: entry i is `keys0[i]`, `keys1[i]`, `values[i]`, for i
 // below the shortest of the three lengths.
 pub fn extend_wide(
     state: State,

@@ -1,4 +1,5 @@
-// A heap at work: its state, and its kind's reader at hand.
+// A heap at work: its state, and its kind's reader at hand. That the state and the lent slices fit each
+// other (`IsReady`, `Fine`, `Room`) is asked in clauses, because it is said of two values.
 ghost use Rattle.std.specs.Prelude.{◌≡◌};
 
 use keys::Reader;

@@ -39,24 +39,45 @@ fn show(rt: &impl Print, form: Form, text: &str, before: Sample, ran: Ran) -> io
     }
 }
 
+// Three entries of which one is refused, each time on the heap before.
+fn refusals(
+    rt: &impl Print,
+    form: Form,
+    cases: [(&str, Sample, [u64; 3], [u64; 3]); 3],
+) -> io::Result<()> {
+    for (text, before, keys0, keys1) in cases {
+        let three = Three::of(keys0, keys1, [1, 2, 3]);
+        show(rt, form, text, before, form.run(before, three))?;
+    }
+    Ok(())
+}
+
 fn numbers(rt: &impl Print, form: Form) -> io::Result<()> {
     let fresh = Sample::fresh(1, 10);
     let taken = form.run(fresh, Three::of([3, 9, 7], [0; 3], [30, 90, 70]));
     show(rt, form, "three entries", fresh, taken)?;
-    let refused = [
-        ("refused in the middle, above the top", [1, 11, 2], [0; 3]),
-        ("refused in the middle, no free slot", [1, 2, 3], [0, 0, 1]),
+    let before = taken.after;
+    let cases = [
+        (
+            "refused in the middle, above the top",
+            before,
+            [1, 11, 2],
+            [0; 3],
+        ),
+        (
+            "refused in the middle, no free slot",
+            before,
+            [1, 2, 3],
+            [0, 0, 1],
+        ),
         (
             "refused in the middle, a second key word",
+            before,
             [1, 2, 11],
             [0, 1, 0],
         ),
     ];
-    for (text, keys0, keys1) in refused {
-        let three = Three::of(keys0, keys1, [1, 2, 3]);
-        show(rt, form, text, taken.after, form.run(taken.after, three))?;
-    }
-    Ok(())
+    refusals(rt, form, cases)
 }
 
 // A NaN is the first refused only where no entry before it is. It is told before the want of a slot.
@@ -64,7 +85,7 @@ fn floats(rt: &impl Print, form: Form) -> io::Result<()> {
     let fresh = Sample::fresh(6, ONE);
     let taken = form.run(fresh, Three::of([0, ONE, MINUS_ZERO], [0; 3], [1, 2, 3]));
     show(rt, form, "three floats", fresh, taken)?;
-    let refused = [
+    let cases = [
         ("refused at the end, a NaN", fresh, [0, ONE, NAN], [0; 3]),
         (
             "refused in the middle, above the top, before a NaN",
@@ -79,11 +100,7 @@ fn floats(rt: &impl Print, form: Form) -> io::Result<()> {
             [0, 0, 1],
         ),
     ];
-    for (text, before, keys0, keys1) in refused {
-        let three = Three::of(keys0, keys1, [1, 2, 3]);
-        show(rt, form, text, before, form.run(before, three))?;
-    }
-    Ok(())
+    refusals(rt, form, cases)
 }
 
 fn main(rt: HostRuntime) -> io::Result<()> {

@@ -15,9 +15,9 @@ pub use any_pool::{serve_slots, small};
 use keys::Kind;
 use pool::{Pool, Refusal};
 
-// One byte with a refusal's code.
-pub fn tell(refusal: Refusal) {
-    io::write_all(1, &[u8::from(refusal)]);
+// One byte with a code, or with that of a refusal.
+pub fn tell(code: impl Into<u8>) {
+    io::write_all(1, &[code.into()]);
 }
 
 // The first so many answers.

@@ -24,6 +24,9 @@ fn refused<T>(state: State, refusal: Refusal) -> Answer<T, Refusal>
     }
 }
 
+// The calls begin alike. What they do then differs by call and by answer, and a closure for it would
+// need a contract as long as the calls are.
+
 // Takes an entry. Refused if the key is malformed, a NaN or above the top, or if no slot is free.
 pub fn push(state: State, pool: &mut Pool, key: Words, value: u64) -> Answer<(), Refusal>
     ensures same { SamePool pool.new pool.old }

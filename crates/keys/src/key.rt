@@ -2,7 +2,8 @@
 ghost use Rattle.std.specs.Prelude.{◌≡◌, ℕ, ltb};
 ghost use Rattle.rule.specs.Width.{distance as apart};
 
-// "Keys compare as their ordered forms", and are measured as them.
+// "Keys compare as their ordered forms", and are measured as them. The order is `above` and not `Ord`,
+// which would be four laws by hand for each type whose order is not that of its fields.
 pub trait Key: Copy {
     // How many bits the ordered form has.
     ghost width: { ℕ };

@@ -10,7 +10,8 @@ pub const SIGNED: u8 = 1;
 
 pub const REVERSED: u8 = 2;
 
-// The codes of a mixed key's parts, high part first. A part's code is its bits, 8, 16, 32 or 64, plus
+// The codes of a mixed key's parts, high part first. They are bytes and no enum, because a C program hands
+// them over and any byte may be handed in. A part's code is its bits, 8, 16, 32 or 64, plus
 // its sort; 0 stands where there is no part. So a day of 32 bits, a road of 16 and a reversed priority
 // of 8 are `Table::of(32, 16, 8 + REVERSED, 0)`.
 #[derive(Clone, Copy, PartialEq, Eq, Debug)]

@@ -76,20 +76,20 @@ impl Reader {
     pub fn above(self, a: Words, b: Words) -> bool
         ensures { result ≡ ltb (ordered self.kind b.first b.second) (ordered self.kind a.first a.second) }
     {
-        if self.kind.number == 5 {
-            return Mixed::from(a).above(self.masks, Mixed::from(b));
+        match self.kind.name() {
+            KindName::Mixed => Mixed::from(a).above(self.masks, Mixed::from(b)),
+            _ => above_bare(self.kind, a, b),
         }
-        above_bare(self.kind, a, b)
     }
 
     // How far are the two keys apart?
     pub fn distance(self, a: Words, b: Words) -> u32
         ensures { result ≡ apart (width self.kind) (ordered self.kind a.first a.second) (ordered self.kind b.first b.second) }
     {
-        if self.kind.number == 5 {
-            return Mixed::from(a).distance(self.masks, Mixed::from(b));
+        match self.kind.name() {
+            KindName::Mixed => Mixed::from(a).distance(self.masks, Mixed::from(b)),
+            _ => distance_bare(self.kind, a, b),
         }
-        distance_bare(self.kind, a, b)
     }
 
     // Has the key no bit that its kind does not have?

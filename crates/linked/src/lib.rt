@@ -2,8 +2,9 @@
 //
 // The state is handed over in parts, each behind a pointer: kind, the four codes of its table, length,
 // whether there is a top, its two words, the first and last links of the 131 chains, and the three busy
-// words. A slice is a pointer and a number of elements. No function has a `requires`; that the pointers
-// are good is the caller's to see to.
+// words. C has no structs of ours and no `Result`, so these stay side by side, and a refusal is its code.
+// A slice is a pointer and a number of elements. No function has a `requires`; that the pointers are good
+// is the caller's to see to.
 #![tactic(auto)]
 
 ghost use Rattle.std.specs.Prelude.{◌≡◌, false};

@@ -18,11 +18,13 @@ use Rattle.keys.specs.Ordered.{width, words, ordered, proper}
 use Rattle.keys.specs.Table.{kind_fits}
 use Rattle.pool.specs.declared.state.Head.{Head}
 use Rattle.pool.specs.World.{waiting_chain, free_chain, Links, World, size, first_of, last_of, key_word0, key_word1, slot_key, top_of, place, within}
-use Rattle.pool.specs.Sound.{limit}
+use Rattle.pool.specs.Sound.{Fit, limit}
+use Rattle.pool.specs.Fine.{Room}
 use Rattle.pool.specs.Marks.{summary, marked, same_words}
 use Rattle.pool.specs.Examine.{fits, headed, stands_at, empty_at, ok_busy, ok_free, gate, verify, apart, verify_busy, scan, scanned, fitting, finish, examined}
 use Rattle.pool.proofs.Chains.{last_none}
 use Rattle.pool.proofs.Marks.{summary_none, seen_some, seen_none, seen_all}
+use Rattle.pool.proofs.Fine.{fit_room}
 use Rattle.pool.proofs.Exam.{Walked, verify_sound, examined_code, code_unfit, code_unheaded, code_at}
 
 -- ---- tests
@@ -313,16 +315,16 @@ module _ (h : Head) (k : Links) (keys : List ℕ) where
   unfolding scanned
   scanned_refused e = ap (gate (same_words (summary k.first) k.busy)) e ∙ gate_none (same_words (summary k.first) k.busy)
 
-  pub scan_words : {m left c : ℕ} {words : List ℕ} → Scan h k keys m left c words → length words ≡ 3
-  unfolding summary
-  scan_words t = ap length t.seen
-
   -- at the end of the scan: its words are compared with those of the state
   pub scanned_over : {left c : ℕ} {words : List ℕ} → Scan h k keys free_chain left c words → free_chain ≤ c → {b : Bool} → b ≡ same_words words k.busy → scanned h k keys ≡ gate b (suc left)
   unfolding scanned
   scanned_over {left} {c} {words} t l {b} e = ap₂ gate (ap (λ (x : List ℕ). same_words x k.busy) (sym (t.seen ∙ seen_all k.first c (omega arith))) ∙ sym e) (scan_over t l)
 
 -- ---- the whole
+
+-- the keys of a fit pool have room beside its back links too
+pub back_room : {w : World} → Fit w → Room w.head.kind (length w.links.back) w.keys
+back_room {w} f = rw f.some_backs (fit_room f)
 
 module _ (w : World) where
   pub fitting_is : fitting w ≡ fits w.head.kind (length w.keys) (length w.values) (size w) (length w.links.back)

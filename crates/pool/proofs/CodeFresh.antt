@@ -10,11 +10,10 @@ use Rattle.std.specs.Prelude.{Option, Some, None}
 use Rattle.keys.specs.declared.kind.Kind.{Kind}
 use Rattle.keys.specs.declared.words.Words.{Words}
 use Rattle.keys.specs.Ordered.{words}
-use Rattle.pool.specs.declared.state.Head.{Head}
 use Rattle.pool.specs.declared.state.State.{State}
-use Rattle.pool.specs.World.{free_chain, chain_count, chain_set, world_of}
+use Rattle.pool.specs.World.{chain_set, world_of}
 use Rattle.pool.specs.Core.{fresh_next, fresh_first, fresh_links, fresh_core, fresh_state}
-use Rattle.pool.specs.Fresh.{topped_with, fresh_with, state_with}
+use Rattle.pool.specs.Fresh.{fresh_with, state_with}
 use Rattle.pool.proofs.FreshPool.{length_fresh, fresh_mid, fresh_end}
 
 -- of n elements the first i are those of ys
@@ -68,12 +67,6 @@ first_some (suc n) h = refl
 -- ---- the state of a fresh heap, and its world
 
 module _ (kind : Kind) (n : ℕ) where
-  pub state_is : (top : Option Words) {h : Head} {f : ℕ} → h ≡ topped_with kind top → f ≡ fresh_first n
-      → chain_set (record { head = h; first = replicate chain_count 0; last = replicate chain_count 0; busy = replicate 3 0 }) free_chain f n ≡ state_with kind n top
-  unfolding topped_with state_with fresh_state
-  state_is None e f = rw (e, f) refl
-  state_is (Some k) e f = rw (e, f) refl
-
   world_is : (top : Option Words) → world_of (state_with kind n top) (replicate (words kind * n) 0) (replicate n 0) (fresh_next 0 n) (replicate n 0) ≡ fresh_with kind n top
   unfolding fresh_with fresh_core fresh_links state_with fresh_state chain_set
   world_is None = refl

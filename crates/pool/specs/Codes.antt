@@ -1,5 +1,5 @@
 -- "Numbers given back": the number of each refusal, and of what a call was told.
-use Rattle.std.specs.Prelude.{◌≡◌, ℕ, Result, Ok, Err, Option, Some, None}
+use Rattle.std.specs.Prelude.{◌≡◌, ℕ, Result, Ok, Err}
 use Rattle.pool.specs.declared.refusal.Refusal.{Refusal}
 use Rattle.pool.specs.declared.refusal.Refusal.TheVariants.{Unfit, Unsound, Ragged, NoRoom, Malformed, Nan, AboveTop, Full, Empty}
 use Rattle.pool.specs.declared.refusal.UnknownCode.{UnknownCode}

@@ -2,133 +2,170 @@
 // equal": elsewhere it is not read, and 0 stands for it. Kind 5 is told apart first, so that the
 // compiler makes a loop of its own for it, and the loops along keys of the other kinds stay as short as
 // they are without it.
-ghost use Rattle.std.specs.Prelude.{◌≡◌, ◌≢◌, not, ◌&&◌, ltb, eqb};
+ghost use Rattle.std.specs.Prelude.{◌≡◌, ◌≢◌, ◌<◌, ◌^◌, not, ◌&&◌, ltb, eqb};
 ghost use Rattle.rule.specs.Width.{distance};
 ghost use Rattle.keys.specs.Ordered.{width, ordered};
 ghost use Rattle.pool.specs.World.{key_word0, key_word1, slot_key};
 ghost use Rattle.pool.specs.Fine.{Holds};
 
 use crate::keywords::key_at;
-use keys::{Kind, Reader, Words};
+use keys::{Kind, KindName, Reader, Words};
 
-// The words of a slot's key, in every kind but 5. There the first is any word.
-#[tactic(auto, using(keys::proofs::Ordered::wide_pair, keys::proofs::Ordered::wide_bare), unfolding(crate::specs::World::key_word0))]
-pub fn bare0(kind: Kind, keys: &[u64], slot: usize) -> u64
-    requires { Holds kind keys.now slot }
-    ensures { kind.number ≢ 5 → result ≡ key_word0 kind keys.now slot }
-{
-    if kind.number == 4 {
-        keys[2 * slot]
-    } else {
-        keys[slot]
-    }
+// The key of a slot, by where its words stand. The first is read already, and in kind 5 it is any word.
+// The second waits: read or not, it is below 2^64.
+#[derive(Clone, Copy)]
+pub struct SlotKey<'a> {
+    pub kind: Kind,
+    pub keys: &'a [u64],
+    pub slot: usize,
+    pub first: u64,
+    pub ghost holds: { Holds kind keys.now slot },
+    pub ghost begins: { kind.number ≢ 5 → first ≡ key_word0 kind keys.now slot },
+    pub ghost fits: { key_word1 kind keys.now slot < 2 ^ 64 },
 }
 
-#[tactic(auto, using(keys::proofs::Ordered::wide_pair, keys::proofs::Ordered::wide_bare), unfolding(crate::specs::World::key_word1))]
-fn bare1(kind: Kind, keys: &[u64], slot: usize) -> u64
-    requires number_nonzero { kind.number ≢ 5 }
-    requires holds { Holds kind keys.now slot }
-    ensures { result ≡ key_word1 kind keys.now slot }
+// Are the keys of this kind pairs?
+fn is_pair(kind: Kind) -> bool
+    ensures { result ≡ eqb kind.number 4 }
 {
-    if kind.number == 4 {
-        keys[2 * slot + 1]
-    } else {
-        0
-    }
+    matches!(kind.name(), KindName::Pair)
 }
 
 // Are these the first words of pairs, and different, so that they decide?
 fn first_decides(kind: Kind, a0: u64, b0: u64) -> bool
     ensures { result ≡ (eqb kind.number 4 && not (eqb a0 b0)) }
 {
-    kind.number == 4 && a0 != b0
+    is_pair(kind) && a0 != b0
 }
 
-// Is the key of the slot above this key, in every kind but 5?
-#[tactic(auto, using(crate::proofs::CodeAgainst::above_unread))]
-pub fn bare_above(kind: Kind, keys: &[u64], slot: usize, other: Words) -> bool
-    requires number_nonzero { kind.number ≢ 5 }
-    requires holds { Holds kind keys.now slot }
-    ensures { result ≡ ltb (ordered kind other.first other.second) (slot_key kind keys.now slot) }
-{
-    let first = bare0(kind, keys, slot);
-    if first_decides(kind, first, other.first) {
-        return keys::above_bare(kind, Words::from(first), Words::from(other.first));
-    }
-    let second = bare1(kind, keys, slot);
-    keys::above_bare(kind, Words { first, second }, other)
-}
+impl<'a> SlotKey<'a> {
+    ghost use Rattle.pool.specs.Slot.{first_word, second_word, key_of};
 
-pub fn slot_above(reader: Reader, keys: &[u64], slot: usize, other: Words) -> bool
-    requires { Holds reader.kind keys.now slot }
-    ensures { result ≡ ltb (ordered reader.kind other.first other.second) (slot_key reader.kind keys.now slot) }
-{
-    let kind = reader.kind;
-    if kind.number == 5 {
-        return reader.above(key_at(kind, keys, slot), other);
+    #[tactic(auto, using(keys::proofs::Ordered::wide_pair, keys::proofs::Ordered::wide_bare, crate::proofs::CodeAgainst::word1_fits), unfolding(crate::specs::World::key_word0))]
+    pub fn of(kind: Kind, keys: &'a [u64], slot: usize) -> SlotKey<'a>
+        requires { Holds kind keys.now slot }
+        ensures kind { result.kind ≡ kind }
+        ensures key { key_of result ≡ slot_key kind keys.now slot }
+    {
+        let first = if is_pair(kind) {
+            keys[2 * slot]
+        } else {
+            keys[slot]
+        };
+        SlotKey {
+            kind,
+            keys,
+            slot,
+            first,
+        }
     }
-    bare_above(kind, keys, slot, other)
-}
 
-// Is the key of the slot above that of the other slot, whose first word is `b0`, in every kind but 5?
-#[tactic(auto, using(crate::proofs::CodeAgainst::above_unread, crate::proofs::CodeAgainst::word1_fits))]
-fn bare_above_slot(kind: Kind, keys: &[u64], slot: usize, other: usize, b0: u64) -> bool
-    requires number_nonzero { kind.number ≢ 5 }
-    requires holds { Holds kind keys.now slot }
-    requires holds_2 { Holds kind keys.now other }
-    requires b0_value { b0 ≡ key_word0 kind keys.now other }
-    ensures { result ≡ ltb (slot_key kind keys.now other) (slot_key kind keys.now slot) }
-{
-    let first = bare0(kind, keys, slot);
-    if first_decides(kind, first, b0) {
-        return keys::above_bare(kind, Words::from(first), Words::from(b0));
+    // The words of the key, in every kind but 5.
+    #[tactic(auto, using(keys::proofs::Ordered::wide_pair, keys::proofs::Ordered::wide_bare), unfolding(crate::specs::World::key_word1))]
+    fn bare_words(self) -> Words
+        requires { self.kind.number ≢ 5 }
+        ensures first { result.first ≡ first_word self.entry }
+        ensures second { result.second ≡ second_word self.entry }
+    {
+        let second = if is_pair(self.kind) {
+            self.keys[2 * self.slot + 1]
+        } else {
+            0
+        };
+        Words {
+            first: self.first,
+            second,
+        }
     }
-    let own = Words {
-        first,
-        second: bare1(kind, keys, slot),
-    };
-    let others = Words {
-        first: b0,
-        second: bare1(kind, keys, other),
-    };
-    keys::above_bare(kind, own, others)
-}
 
-pub fn slot_above_slot(reader: Reader, keys: &[u64], slot: usize, other: usize, b0: u64) -> bool
-    requires holds { Holds reader.kind keys.now slot }
-    requires holds_2 { Holds reader.kind keys.now other }
-    requires b0_value { reader.kind.number ≢ 5 → b0 ≡ key_word0 reader.kind keys.now other }
-    ensures { result ≡ ltb (slot_key reader.kind keys.now other) (slot_key reader.kind keys.now slot) }
-{
-    let kind = reader.kind;
-    if kind.number == 5 {
-        return slot_above(reader, keys, slot, key_at(kind, keys, other));
+    // The words of this key and of the other as far as they count: the order and the distance of the two
+    // are those of the whole keys, in every kind but 5.
+    #[tactic(auto, using(crate::proofs::CodeAgainst::above_unread, crate::proofs::CodeAgainst::far_unread))]
+    fn counted(self, other: Words) -> (Words, Words)
+        requires { self.kind.number ≢ 5 }
+        ensures above { ltb (ordered self.entry.kind result.1.first result.1.second) (ordered self.entry.kind result.0.first result.0.second) ≡ ltb (ordered self.entry.kind other.first other.second) (key_of self.entry) }
+        ensures far { distance (width self.entry.kind) (ordered self.entry.kind result.0.first result.0.second) (ordered self.entry.kind result.1.first result.1.second) ≡ distance (width self.entry.kind) (key_of self.entry) (ordered self.entry.kind other.first other.second) }
+    {
+        if first_decides(self.kind, self.first, other.first) {
+            return (Words::from(self.first), Words::from(other.first));
+        }
+        (self.bare_words(), other)
     }
-    bare_above_slot(kind, keys, slot, other, b0)
-}
 
-// How far is the key of the slot from this key, in every kind but 5?
-#[tactic(auto, using(crate::proofs::CodeAgainst::far_unread))]
-pub fn bare_distance(kind: Kind, keys: &[u64], slot: usize, other: Words) -> u32
-    requires number_nonzero { kind.number ≢ 5 }
-    requires holds { Holds kind keys.now slot }
-    ensures { result ≡ distance (width kind) (slot_key kind keys.now slot) (ordered kind other.first other.second) }
-{
-    let first = bare0(kind, keys, slot);
-    if first_decides(kind, first, other.first) {
-        return keys::distance_bare(kind, Words::from(first), Words::from(other.first));
+    // Is this key above the other, in every kind but 5?
+    pub fn bare_above(self, other: Words) -> bool
+        requires { self.kind.number ≢ 5 }
+        ensures { result ≡ ltb (ordered self.entry.kind other.first other.second) (key_of self.entry) }
+    {
+        let (own, other) = self.counted(other);
+        keys::above_bare(self.kind, own, other)
     }
-    let second = bare1(kind, keys, slot);
-    keys::distance_bare(kind, Words { first, second }, other)
-}
 
-pub fn slot_distance(reader: Reader, keys: &[u64], slot: usize, other: Words) -> u32
-    requires { Holds reader.kind keys.now slot }
-    ensures { result ≡ distance (width reader.kind) (slot_key reader.kind keys.now slot) (ordered reader.kind other.first other.second) }
-{
-    let kind = reader.kind;
-    if kind.number == 5 {
-        return reader.distance(key_at(kind, keys, slot), other);
+    // How far is this key from the other, in every kind but 5?
+    pub fn bare_distance(self, other: Words) -> u32
+        requires { self.kind.number ≢ 5 }
+        ensures { result ≡ distance (width self.entry.kind) (key_of self.entry) (ordered self.entry.kind other.first other.second) }
+    {
+        let (own, other) = self.counted(other);
+        keys::distance_bare(self.kind, own, other)
     }
-    bare_distance(kind, keys, slot, other)
+
+    // Is this key above that of the other slot, in every kind but 5? Not by `counted`: that takes the other
+    // key whole, and of the other slot too the second word waits.
+    #[tactic(auto, using(crate::proofs::CodeAgainst::above_unread))]
+    fn bare_above_slot(self, other: SlotKey<'_>) -> bool
+        requires unmixed { self.kind.number ≢ 5 }
+        requires same { other.kind ≡ self.kind }
+        ensures { result ≡ ltb (key_of other.entry) (key_of self.entry) }
+    {
+        if first_decides(self.kind, self.first, other.first) {
+            return keys::above_bare(self.kind, Words::from(self.first), Words::from(other.first));
+        }
+        keys::above_bare(self.kind, self.bare_words(), other.bare_words())
+    }
+
+    // The words of the key, in every kind.
+    fn words(self) -> Words
+        ensures first { result.first ≡ first_word self.entry }
+        ensures second { result.second ≡ second_word self.entry }
+    {
+        key_at(self.kind, self.keys, self.slot)
+    }
+
+    // Is this key above the other?
+    #[tactic(auto, using(keys::proofs::Names::not_mixed))]
+    pub fn above(self, reader: Reader, other: Words) -> bool
+        requires { reader.kind ≡ self.kind }
+        ensures { result ≡ ltb (ordered self.entry.kind other.first other.second) (key_of self.entry) }
+    {
+        match self.kind.name() {
+            KindName::Mixed => reader.above(self.words(), other),
+            _ => self.bare_above(other),
+        }
+    }
+
+    // How far is this key from the other?
+    #[tactic(auto, using(keys::proofs::Names::not_mixed))]
+    pub fn distance(self, reader: Reader, other: Words) -> u32
+        requires { reader.kind ≡ self.kind }
+        ensures { result ≡ distance (width self.entry.kind) (key_of self.entry) (ordered self.entry.kind other.first other.second) }
+    {
+        match self.kind.name() {
+            KindName::Mixed => reader.distance(self.words(), other),
+            _ => self.bare_distance(other),
+        }
+    }
+
+    // Is this key above that of the other slot?
+    #[tactic(auto, using(keys::proofs::Names::not_mixed))]
+    pub fn above_slot(self, reader: Reader, other: SlotKey<'_>) -> bool
+        requires reads { reader.kind ≡ self.kind }
+        requires same { other.kind ≡ self.kind }
+        ensures { result ≡ ltb (key_of other.entry) (key_of self.entry) }
+    {
+        match self.kind.name() {
+            KindName::Mixed => self.above(reader, other.words()),
+            _ => self.bare_above_slot(other),
+        }
+    }
 }

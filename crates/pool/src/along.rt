@@ -5,7 +5,7 @@ ghost use Rattle.pool.specs.Lent.{links_at};
 ghost use Rattle.pool.specs.Fine.{Under, Fine, Room};
 ghost use Rattle.pool.specs.Core.{greatest_of, drained, drain_chain};
 
-use crate::against::{bare0, slot_above_slot, slot_distance};
+use crate::against::SlotKey;
 use crate::chain::append;
 use crate::state::State;
 use crate::summary::unmark;
@@ -20,16 +20,17 @@ pub fn greatest(reader: Reader, keys: &[u64], next: &[u32], start: u32) -> u32
 {
     let s = start as usize - 1;
     let mut best = start;
-    let mut best0 = bare0(reader.kind, keys, s);
+    let mut best_key = SlotKey::of(reader.kind, keys, s);
     let mut at = next[s];
     for _ in 0..next.len() {
         if at == 0 {
             break;
         }
         let i = at as usize - 1;
-        if slot_above_slot(reader, keys, i, best as usize - 1, best0) {
+        let key = SlotKey::of(reader.kind, keys, i);
+        if key.above_slot(reader, best_key) {
             best = at;
-            best0 = bare0(reader.kind, keys, i);
+            best_key = key;
         }
         at = next[i];
     }
@@ -64,7 +65,8 @@ pub fn spread(
         }
         let slot = at - 1;
         at = next[slot as usize];
-        let bucket = slot_distance(reader, keys, slot as usize, top);
+        let key = SlotKey::of(reader.kind, keys, slot as usize);
+        let bucket = key.distance(reader, top);
         append(state, next, back, bucket as usize, slot);
         moves += 1;
     }

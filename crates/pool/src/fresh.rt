@@ -1,6 +1,6 @@
 // A fresh pool: every slot is free, in the order of their numbers.
 ghost use Rattle.std.specs.Prelude.{◌≡◌, ◌<◌, ◌^◌, length, replicate};
-ghost use Rattle.pool.specs.Core.{fresh_next};
+ghost use Rattle.pool.specs.Core.{fresh_next, fresh_state};
 ghost use Rattle.pool.specs.Lent.{world_in, SamePool};
 ghost use Rattle.pool.specs.Fresh.{Pooled, fresh_with, state_with};
 
@@ -19,18 +19,37 @@ fn chain_up(next: &mut [u32])
     }
 }
 
-// The state of a fresh heap with n slots: 131 equal chains, and then the free one set.
-#[tactic(auto, using(crate::proofs::CodeFresh::state_is, crate::proofs::CodeFresh::first_none, crate::proofs::CodeFresh::first_some))]
-fn fresh_state(kind: Kind, n: u32, top: Option<Words>) -> State
-    ensures { result ≡ state_with kind n top }
+// The state of a fresh heap with n slots: 131 equal chains, and then the free one set. The top's words may
+// be any, with a top or without.
+pub fn fresh_state(kind: Kind, n: u32, topped: bool, top0: u64, top1: u64) -> State
+    ensures { result ≡ fresh_state kind n topped top0 top1 }
 {
+    let head = Head {
+        kind,
+        len: 0,
+        topped,
+        top0,
+        top1,
+    };
     let blank = State {
-        head: Head::fresh(kind, top),
+        head,
         first: [0; 131],
         last: [0; 131],
         busy: [0; 3],
     };
-    blank.with_chain(FREE, if n == 0 { 0 } else { 1 }, n)
+    let first = if n == 0 { 0 } else { 1 };
+    blank.with_chain(FREE, first, n)
+}
+
+// The same with this top, or with none.
+#[tactic(auto, unfolding(crate::specs::Fresh::state_with))]
+fn state_with(kind: Kind, n: u32, top: Option<Words>) -> State
+    ensures { result ≡ state_with kind n top }
+{
+    match top {
+        Some(key) => fresh_state(kind, n, true, key.first, key.second),
+        None => fresh_state(kind, n, false, 0, 0),
+    }
 }
 
 // The pool becomes that of a fresh heap, with this top: "free chain 0, 1, 2 and so on, keys and values
@@ -50,5 +69,5 @@ pub fn lay_fresh(pool: &mut Pool, kind: Kind, top: Option<Words>) -> State
     pool.values.fill(0);
     chain_up(pool.next);
     pool.back.fill(0);
-    fresh_state(kind, pool.next.len() as u32, top)
+    state_with(kind, pool.next.len() as u32, top)
 }

@@ -22,7 +22,7 @@ mod walking;
 pub use along::{greatest, spread};
 pub use chain::{append, release, take_free, unhook_tail};
 pub use examination::{examine, fits};
-pub use fresh::lay_fresh;
+pub use fresh::{fresh_state, lay_fresh};
 pub use keywords::{key_at, store_key};
 pub use lent::{Entry, Pool, View};
 pub use refusal::{Refusal, UnknownCode, code};

@@ -1,9 +1,9 @@
 // The tests of the walks: on a chain of entries, and on the free chain.
-ghost use Rattle.std.specs.Prelude.{◌≡◌, ◌≤◌, length};
+ghost use Rattle.std.specs.Prelude.{◌≡◌, ◌≢◌, length};
 ghost use Rattle.pool.specs.Fine.{Room};
 ghost use Rattle.pool.specs.Examine.{stands_at, empty_at};
 
-use crate::against::{bare_above, bare_distance};
+use crate::against::SlotKey;
 use crate::keywords::key_at;
 use crate::state::{Head, WAITING};
 use crate::walking::Standing;
@@ -22,15 +22,16 @@ pub struct Entries<'a> {
     pub ghost room: { Room head.kind (length back.now) keys.now },
 }
 
-// The same in kinds 1 to 4, where whatever stands in a slot is a key. They have a walk of their own: of a
-// single loop with every kind's tests the compiler makes none that is short.
+// The same in every kind but 5 and 6: whatever stands in a slot is a key there. They have a walk of their
+// own: of a single loop with every kind's tests the compiler makes none that is short.
 #[derive(Clone, Copy)]
 pub struct BareEntries<'a> {
     pub head: Head,
     pub keys: &'a [u64],
     pub back: &'a [u32],
     pub chain: usize,
-    pub ghost bare: { head.kind.number ≤ 4 },
+    pub ghost unmixed: { head.kind.number ≢ 5 },
+    pub ghost no_float: { head.kind.number ≢ 6 },
     pub ghost room: { Room head.kind (length back.now) keys.now },
 }
 
@@ -75,10 +76,9 @@ impl Standing for BareEntries<'_> {
         if !self.head.topped {
             return self.chain == WAITING;
         }
-        let kind = self.head.kind;
+        let key = SlotKey::of(self.head.kind, self.keys, slot);
         let top = self.head.top_words();
-        !bare_above(kind, self.keys, slot, top)
-            && self.chain == bare_distance(kind, self.keys, slot, top) as usize
+        !key.bare_above(top) && self.chain == key.bare_distance(top) as usize
     }
 }
 

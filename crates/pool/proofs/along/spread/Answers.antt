@@ -14,6 +14,7 @@ use Rattle.pool.specs.Fine.{FineAt}
 use Rattle.pool.specs.Core.{emptied, drain_from, drain_chain}
 use Rattle.pool.proofs.Fine.{appended_fine, emptied_fine, drain_turn, drain_stop, drain_end}
 use Rattle.pool.proofs.Drain.{far_lt}
+use Rattle.pool.proofs.CodeAlong.{KeyOf, far_as}
 use Rattle.pool.proofs.along.spread.Goals as goal
 
 -- before the loop: the chain is empty
@@ -41,8 +42,9 @@ loop-init c =
 
 pub append-requires-clause-chain_bound : goal.append-requires-clause-chain_bound
 append-requires-clause-chain_bound c =
-    let x = c.args in
-    omega (arith, far_lt x.reader.kind (slot_key x.reader.kind x.keys.now (c.loop.at - 1)) (ordered x.reader.kind x.top.first x.top.second), c.slot_distance-bucket.ensures)
+    let key = c.of-key.result in
+    let top = c.args.top in
+    omega (arith, far_lt key.kind (slot_key key.kind key.keys.now key.slot) (ordered key.kind top.first top.second), c.distance-bucket.ensures)
 
 pub loop-preserved : goal.loop-preserved
 loop-preserved c =
@@ -51,12 +53,13 @@ loop-preserved c =
     let n = length x.next.now in
     let top = ordered x.reader.kind x.top.first x.top.second in
     let t : Links = links_at l.state l.next l.back in
+    let key : KeyOf x.reader.kind x.keys.now (l.at - 1) c.of-key.result = record { kind' = c.of-key.ensures.kind; key' = c.of-key.ensures.key } in
     record {
       turns' = omega arith;
       link = l.invariant.fine.next.at (l.at - 1);
       fine = subst (FineAt n) (sym c.append.ensures.links) (appended_fine n t _ _ l.invariant.fine (omega arith));
       head = c.append.ensures.head ∙ l.invariant.head;
-      same = l.invariant.same ∙ drain_turn x.reader.kind x.keys.now top l.at l.moves t n _ _ (omega arith) c.if-at-eq0.false c.slot_distance-bucket.ensures c.append.ensures.links;
+      same = l.invariant.same ∙ drain_turn x.reader.kind x.keys.now top l.at l.moves t n _ _ (omega arith) c.if-at-eq0.false (far_as _ _ _ _ key c.distance-bucket.ensures) c.append.ensures.links;
     }
 
 pub returns-after-loop : goal.returns-after-loop

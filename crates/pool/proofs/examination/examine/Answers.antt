@@ -1,12 +1,11 @@
 -- `pool::examination::examine` meets its contract: each way out, by the tests that led there.
 use Rattle.std.proofs.Common.{◌≡◌, Bool, true, cond, length, sym, ap, ◌∙◌}
-use Rattle.pool.specs.Sound.{Fit, limit}
+use Rattle.pool.specs.Sound.{Fit}
 use Rattle.pool.specs.World.{World}
 use Rattle.pool.specs.Lent.{world_seen}
 use Rattle.pool.specs.Codes.{told}
 use Rattle.pool.specs.Examine.{fits}
 use Rattle.pool.proofs.Exam.{fitting_fit}
-use Rattle.pool.proofs.Fine.{fit_room}
 use Rattle.pool.proofs.CodeExam.{fitting_is, unfit_code, unheaded_code, headed_code}
 use Rattle.pool.proofs.examination.examine.Goals.{else-top_is_plain-via-then-top_is_plain+else-stands, else-top_is_plain-via-else-top_is_plain}
 use Rattle.pool.proofs.examination.examine.Goals as goal
@@ -19,18 +18,8 @@ pub returns-then-not-fits : goal.returns-then-not-fits
 unfolding told
 returns-then-not-fits c = let w = world_seen c.args.state.now c.args.view in sym (unfit_code w (fitting_is w ∙ sym c.fits.ensures ∙ c.if-not-fits.true))
 
-pub stands-requires-clause-room : goal.stands-requires-clause-room
-stands-requires-clause-room c = fit_room (fit (world_seen c.args.state.now c.args.view) c.fits.ensures c.if-not-fits.false)
-
-pub stands-requires-clause-values_len : goal.stands-requires-clause-values_len
-stands-requires-clause-values_len c = (fit (world_seen c.args.state.now c.args.view) c.fits.ensures c.if-not-fits.false).some_values
-
-pub stands-requires-clause-back_len : goal.stands-requires-clause-back_len
-stands-requires-clause-back_len c = (fit (world_seen c.args.state.now c.args.view) c.fits.ensures c.if-not-fits.false).some_backs
-
-pub stands-requires-clause-small : goal.stands-requires-clause-small
-unfolding limit
-stands-requires-clause-small c = (fit (world_seen c.args.state.now c.args.view) c.fits.ensures c.if-not-fits.false).small
+pub invariant_of-pool-clause-fit : goal.invariant_of-pool-clause-fit
+invariant_of-pool-clause-fit c = fit (world_seen c.args.state.now c.args.view) c.fits.ensures c.if-not-fits.false
 
 pub returns-then-stands : goal.returns-then-stands
 unfolding told

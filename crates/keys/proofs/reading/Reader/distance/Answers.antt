@@ -4,19 +4,23 @@ use Prim.Native.Nat.{ℕ, ◌^◌, ◌<◌}
 use Rattle.rule.specs.Width.{distance}
 use Rattle.keys.specs.Ordered.{ordered}
 use Rattle.keys.specs.Masks.{masked}
+use Rattle.keys.proofs.Names.{mixed_is, not_mixed}
 use Rattle.keys.proofs.Ordered.{masked_ordered, distance_mixed}
 use borrow.Author.Rules.{rules}
 use Rattle.keys.proofs.reading.Reader.distance.Goals as goal
 
-pub returns-then-self-eq5 : goal.returns-then-self-eq5
-returns-then-self-eq5 c =
+pub returns-in-Mixed : goal.returns-in-Mixed
+returns-in-Mixed c =
     let x = c.args in
     let s = x.self in
     let p = c.from.ensures in
-    let q = c.from-then-self-eq5.ensures in
-    let e = c.if-self-eq5.true in
+    let q = c.from-in-Mixed.ensures in
+    let e = mixed_is _ c.in-Mixed.ensures in
     let form : (a b : ℕ) → b < 2 ^ 64 → masked s.masks a b ≡ ordered s.kind a b =
-    λ a b h. masked_ordered s.kind a b h s.masks (search rules) (search rules) (s.reads.mixed e) e in
+    λ a b h. masked_ordered s.kind a b h s.masks (search (rules, c.well_formed)) (search (rules, c.well_formed)) (s.reads.mixed e) e in
     c.distance.ensures
     ∙ ap₂ (distance 128) (ap₂ (masked s.masks) p.0 p.1 ∙ form x.a.first x.a.second (search rules)) (ap₂ (masked s.masks) q.0 q.1 ∙ form x.b.first x.b.second (search rules))
     ∙ distance_mixed s.kind x.a.first x.a.second (search rules) (search rules) x.b.first x.b.second (search rules) (search rules)
+
+pub distance_bare-requires : goal.distance_bare-requires
+distance_bare-requires c = not_mixed _ c.name.ensures c.in_default.not-Mixed
