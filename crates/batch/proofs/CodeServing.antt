@@ -17,7 +17,7 @@ use Rattle.pool.specs.World.{Links, World}
 use Rattle.pool.specs.Sound.{Whole}
 use Rattle.pool.specs.Fine.{Room, Ready}
 use Rattle.pool.specs.Core.{Moved, moved_to, constrain_core, fresh_core}
-use Rattle.pool.specs.Fresh.{Pooled, fresh_with}
+use Rattle.pool.specs.Fresh.{top_shown, Pooled, fresh_with}
 use Rattle.pool.proofs.Refusals.{refusal_some}
 use Rattle.engine.specs.Outcome.{Outcome, answered, refused, done, unless, key_code}
 use Rattle.engine.specs.Core.{clear_core, clear_to_core}
@@ -26,7 +26,7 @@ use Rattle.heap.proofs.CodeFresh.{told_off}
 use Rattle.batch.specs.declared.records.Record.{Record}
 use Rattle.batch.specs.declared.records.Operation.{Operation}
 use Rattle.batch.specs.declared.serving.Reply.{Reply}
-use Rattle.batch.specs.Core.{operation_of, top_shown, shown_first, shown_second, replied, constrained_core, operated_core, asked_core, served_core}
+use Rattle.batch.specs.Core.{operation_of, shown_first, shown_second, replied, constrained_core, operated_core, asked_core, served_core}
 
 -- ---- replies
 
@@ -39,14 +39,6 @@ moved_replied {w = w} e p = ap (λ (s : Reply). replied (Ok s) w) e ∙ p
 pub err_replied : {t : Result Reply Refusal} {r q : Refusal} {w : World} {o : Outcome} → t ≡ Err r → r ≡ q → answered (refusal_code q) w 0 false 0 0 0 0 ≡ o → replied t w ≡ o
 unfolding replied
 err_replied {w = w} e f p = ap (λ (t : Result Reply Refusal). replied t w) (e ∙ ap (λ (r : Refusal). Err r) f) ∙ p
-
-pub top_some : (h : Head) (k : Words) → h.topped ≡ true → k.first ≡ h.top0 → k.second ≡ h.top1 → Some k ≡ top_shown h
-unfolding top_shown
-top_some h k t a b = rw t (λ i. Some (record { first = a i; second = b i }))
-
-pub top_none : (h : Head) → h.topped ≡ false → None ≡ top_shown h
-unfolding top_shown
-top_none h t = rw t
 
 -- on a sound pool both words are 0 where there is no top
 pub top_replied : {w : World} → Whole w → replied (Ok (record { moves = 0; key = top_shown w.head; value = 0; count = 0 })) w ≡ top w

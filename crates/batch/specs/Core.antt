@@ -2,7 +2,6 @@
 use Rattle.std.specs.Prelude.{false, cond, List, ℕ, zero, suc, ◌+◌, ◌*◌, eqb, Option, Some, None, is_some, Result, Ok, Err}
 use Rattle.keys.specs.declared.kind.Kind.{Kind}
 use Rattle.keys.specs.declared.words.Words.{Words}
-use Rattle.pool.specs.declared.state.Head.{Head}
 use Rattle.pool.specs.declared.refusal.Refusal.{Refusal}
 use Rattle.pool.specs.declared.refusal.Refusal.TheVariants.{Malformed}
 use Rattle.pool.specs.Codes.{refusal_code}
@@ -36,10 +35,6 @@ unfolding named
 operation_of kind r = cond (formed kind r) (Ok (named r)) (Err Malformed)
 
 -- ---- what it gives
-
--- the top, if there is one
-unfoldable pub top_shown : Head → Option Words
-top_shown h = cond h.topped (Some (record { first = h.top0; second = h.top1 })) None
 
 -- the words of a key, 0 where there is none
 unfoldable pub shown_first : Option Words → ℕ

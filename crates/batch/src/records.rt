@@ -50,7 +50,7 @@ pub fn read(bytes: &[u8], at: usize) -> Record
 fn is_bare(r: Record) -> bool
     ensures { result ≡ bare r }
 {
-    r.key.first == 0 && r.key.second == 0 && r.value == 0
+    r.key == Words::from(0) && r.value == 0
 }
 
 // Are the fields that the operation does not use zero, and is the operation known?

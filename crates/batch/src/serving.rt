@@ -5,15 +5,15 @@ ghost use Rattle.pool.specs.Lent.{world_in, SamePool};
 ghost use Rattle.pool.specs.Fresh.{fresh_with};
 ghost use Rattle.engine.specs.Core.{push_core, pop_core, clear_to_core};
 ghost use Rattle.engine.specs.Room.{IsReady};
-ghost use Rattle.batch.specs.Core.{top_shown, replied, constrained_core, operated_core, served_core};
+ghost use Rattle.batch.specs.Core.{replied, constrained_core, operated_core, served_core};
 
 use crate::records::{Operation, Record, operation_of};
 use engine::Engine;
 use keys::Words;
-use pool::{Entry, Head, Pool, Refusal};
+use pool::{Entry, Pool, Refusal};
 
 // What a record gives: how many entries were moved, a key, if one is given, with its value, and the
-// length that was asked for.
+// length that was asked for. The fields are those of an answer, where what is not given is 0.
 #[derive(Clone, Copy)]
 pub struct Reply {
     pub moves: u32,
@@ -90,16 +90,6 @@ fn clear_to(engine: &mut Engine, pool: &mut Pool, key: Words) -> Result<Reply, R
     Ok(Reply::moved(0))
 }
 
-// The top, if there is one.
-fn top(head: Head) -> Option<Words>
-    ensures { result ≡ top_shown head }
-{
-    if head.topped {
-        return Some(head.top_words());
-    }
-    None
-}
-
 fn operate(engine: &mut Engine, pool: &mut Pool, operation: Operation) -> Result<Reply, Refusal>
     requires { Whole (world_in engine.old.state pool.old) }
     ensures same { SamePool pool.new pool.old }
@@ -115,7 +105,7 @@ fn operate(engine: &mut Engine, pool: &mut Pool, operation: Operation) -> Result
         }
         Operation::ClearTo(key) => clear_to(engine, pool, key),
         Operation::Top => Ok(Reply {
-            key: top(engine.state.head),
+            key: engine.state.head.top(),
             ..Reply::moved(0)
         }),
         Operation::Length => Ok(Reply {

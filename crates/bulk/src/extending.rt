@@ -11,7 +11,8 @@ use crate::entries::{Entries, Wide};
 use engine::Engine;
 use pool::{Answer, Entry, Pool, Refusal, State};
 
-// Why a bulk push is refused, and the place, from 0, of the entry that is; 0 if the pool is refused.
+// Why a bulk push is refused, and the place, from 0, of the entry that is. It is 0 too if the pool is
+// refused, as `extended` has it, and so it is no `Option`.
 #[derive(Clone, Copy, PartialEq, Eq, Debug)]
 pub struct Stop {
     pub refusal: Refusal,

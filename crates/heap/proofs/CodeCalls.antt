@@ -1,7 +1,8 @@
 -- What the code of the calls asks for past the examination, on plain values: on a sound pool what the engine gives is what the call is to give, and the tests of `list`'s rooms.
 use Prim.Native.Nat.{ℕ, ◌*◌, ◌/◌, ◌≤◌, ◌<◌}
 use mathlib.Core.Path.{◌≡◌, refl, sym, ap, ◌∙◌}
-use mathlib.Core.Bool.{Bool, true, false, ◌&&◌}
+use mathlib.Core.Bool.{Bool, true, false, cond, ◌&&◌}
+use Rattle.std.specs.Prelude.{Option, Some, None, Ok}
 use mathlib.Core.List.{List}
 use native.Mathlib.Nat.{one-mul}
 use native.Mathlib.Omega.{arith}
@@ -14,11 +15,13 @@ use Rattle.keys.specs.Ordered.{is_wide}
 use Rattle.keys.proofs.Ordered.{words_wide, words_word}
 use Rattle.pool.specs.World.{World}
 use Rattle.pool.specs.Sound.{Whole}
+use Rattle.pool.specs.Fresh.{top_shown}
 use Rattle.pool.specs.Core.{Moved, moved_to, constrain_core}
 use Rattle.pool.proofs.Follows.{examined_whole}
 use Rattle.engine.specs.Outcome.{Outcome, answered, done, listing, room_for}
 use Rattle.engine.specs.Core.{push_core, pop_core, Written, list_entries, list_all, list_core}
 use Rattle.engine.specs.Room.{Roomy}
+use Rattle.engine.specs.Answers.{top_answered}
 use Rattle.heap.specs.Calls.{push, pop, constrain, top, list, pushed, popped, constrained, top_read, listed}
 use Rattle.heap.proofs.Calls.{push_core_lem, pop_core_lem, constrain_core_lem}
 use Rattle.heap.proofs.Public.{passes}
@@ -36,14 +39,22 @@ module _ {w : World} (h : Whole w) where
   unfolding popped
   popped_is e = e ∙ pop_core_lem h ∙ sym (passes h (pop w))
 
-  pub top_there : (k : Words) → w.head.topped ≡ true → k.first ≡ w.head.top0 → k.second ≡ w.head.top1 → answered 0 w 0 true k.first k.second 0 0 ≡ top_read w
+  top_there : (k : Words) → w.head.topped ≡ true → k.first ≡ w.head.top0 → k.second ≡ w.head.top1 → answered 0 w 0 true k.first k.second 0 0 ≡ top_read w
   unfolding top_read top
   top_there k t a b = rw (a, b, ← t) refl ∙ sym (passes h (top w))
 
   -- with no top both words are 0
-  pub top_absent : w.head.topped ≡ false → answered 0 w 0 false 0 0 0 0 ≡ top_read w
+  top_absent : w.head.topped ≡ false → answered 0 w 0 false 0 0 0 0 ≡ top_read w
   unfolding top_read top
   top_absent t = (λ i. answered 0 w 0 (sym t i) (sym (h.sound.no_top0 t) i) (sym (h.sound.no_top1 t) i) 0 0) ∙ sym (passes h (top w))
+
+  pub top_is : {t : Option Words} → t ≡ top_shown w.head → top_answered (Ok t) w ≡ top_read w
+  unfolding top_shown top_answered
+  top_is e = ap (λ (t : Option Words). top_answered (Ok t) w) e ∙ go w.head.topped refl
+    where
+      go : (x : Bool) → w.head.topped ≡ x → top_answered (Ok (cond x (Some (record { first = w.head.top0; second = w.head.top1 })) None)) w ≡ top_read w
+      go true t = top_there (record { first = w.head.top0; second = w.head.top1 }) t refl refl
+      go false t = top_absent t
 
   pub constrained_is : {m : Moved} → m ≡ constrain_core w.head w.links w.keys → answered 0 (moved_to w m) m.moves false 0 0 0 0 ≡ constrained w
   unfolding constrained done

@@ -16,7 +16,8 @@ use Rattle.pool.specs.declared.lent.Pool.{Pool}
 use Rattle.pool.specs.declared.lent.View.{View}
 use Rattle.pool.specs.Codes.{refusal_code, told}
 use Rattle.pool.specs.Fresh.{Pooled, fresh_with}
-use Rattle.pool.specs.World.{World, world_of, blank, no_state, size}
+use Rattle.pool.specs.World.{World, world_of, blank, chain_set, no_state, size}
+use Rattle.pool.specs.Core.{fresh_first, fresh_state}
 use Rattle.pool.specs.Sound.{limit, Typed, Fit}
 use Rattle.pool.specs.Examine.{fits, fitting, examined}
 use Rattle.pool.proofs.Exam.{fitting_fit}
@@ -145,3 +146,8 @@ module _ (w : World) (typed : Typed w.links) (e : 0 ≡ examined w) where
 pub cleared_to_refused : (w : World) (a b : ℕ) (r : Refusal) → refusal_code r ≡ or_else (examined w) (key_code w.head.kind a b) → answered (refusal_code r) w 0 false 0 0 0 0 ≡ cleared_to w a b
 unfolding cleared_to clear_to checked refused
 cleared_to_refused w a b r q = either_told w (refusal_code r) (examined w) (key_code w.head.kind a b) q (refusal_some r) _
+
+-- with no slots and no kind the fresh state is all zero
+pub no_slots : fresh_state (bare 0) 0 false 0 0 ≡ no_state
+unfolding no_state fresh_state fresh_first chain_set
+no_slots = refl

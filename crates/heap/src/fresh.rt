@@ -7,22 +7,16 @@ ghost use Rattle.engine.specs.Outcome.{answered};
 ghost use Rattle.heap.specs.Calls.{made, made_at};
 
 use keys::{Kind, Reader, Words};
-use pool::{Answer, Head, Pool, Refusal, State};
+use pool::{Answer, Pool, Refusal};
 
 // "A refused fresh returns a state all zero (kind 0)."
 fn refused(refusal: Refusal) -> Answer<(), Refusal>
     ensures told { result.told ≡ Err refusal }
     ensures state { result.state ≡ no_state }
 {
-    let state = State {
-        head: Head::fresh(Kind::bare(0), None),
-        first: [0; 131],
-        last: [0; 131],
-        busy: [0; 3],
-    };
     Answer {
         told: Err(refusal),
-        state,
+        state: pool::fresh_state(Kind::bare(0), 0, false, 0, 0),
     }
 }
 

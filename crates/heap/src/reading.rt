@@ -16,12 +16,7 @@ pub fn top(state: State, view: View) -> Result<Option<Words>, Refusal>
     ensures { top_answered result (world_seen state view.entry) ≡ top_read (world_seen state view.entry) }
 {
     pool::examine(&state, view)?;
-    let head = state.head;
-    Ok(if head.topped {
-        Some(head.top_words())
-    } else {
-        None
-    })
+    Ok(state.head.top())
 }
 
 // How many entries the heap holds.

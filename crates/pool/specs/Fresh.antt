@@ -1,5 +1,5 @@
 -- A fresh heap with a top, or with none, as the code asks for it.
-use Rattle.std.specs.Prelude.{◌≡◌, true, false, List, ℕ, ◌*◌, length, Option, Some, None}
+use Rattle.std.specs.Prelude.{◌≡◌, cond, true, false, List, ℕ, ◌*◌, length, Option, Some, None}
 use Rattle.keys.specs.declared.kind.Kind.{Kind}
 use Rattle.keys.specs.declared.words.Words.{Words}
 use Rattle.keys.specs.Ordered.{words}
@@ -14,10 +14,9 @@ pub record Pooled (kind : Kind) (keys values next back : List ℕ) : Type 0 wher
   pub values' : length values ≡ length next
   pub backs : length back ≡ length next
 
--- the head of an empty heap
-unfoldable pub topped_with : Kind → Option Words → Head
-topped_with kind None = record { kind = kind; len = 0; topped = false; top0 = 0; top1 = 0 }
-topped_with kind (Some k) = record { kind = kind; len = 0; topped = true; top0 = k.first; top1 = k.second }
+-- the top, if there is one
+unfoldable pub top_shown : Head → Option Words
+top_shown h = cond h.topped (Some (record { first = h.top0; second = h.top1 })) None
 
 unfoldable pub fresh_with : Kind → ℕ → Option Words → World
 unfolding fresh_core

@@ -1,7 +1,8 @@
 // The key of a slot against another. "For pairs the second word counts only if the first words are
 // equal": elsewhere it is not read, and 0 stands for it. Kind 5 is told apart first, so that the
 // compiler makes a loop of its own for it, and the loops along keys of the other kinds stay as short as
-// they are without it.
+// they are without it. Order and distance have a function each: one for both would take a closure, and a
+// clause for it.
 ghost use Rattle.std.specs.Prelude.{◌≡◌, ◌≢◌, ◌<◌, ◌^◌, not, ◌&&◌, ltb, eqb};
 ghost use Rattle.rule.specs.Width.{distance};
 ghost use Rattle.keys.specs.Ordered.{width, ordered};

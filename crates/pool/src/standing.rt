@@ -87,6 +87,7 @@ impl Standing for FreeSlots<'_> {
 
     ghost stands = { λ c before slot. empty_at c.kind c.keys.now c.values.now c.back.now slot };
 
+    // Word by word, so that the proof has a fact for each way out.
     fn may_stand(&self, _before: u32, slot: usize) -> bool {
         let key = key_at(self.kind, self.keys, slot);
         if self.back[slot] != 0 || key.first != 0 || key.second != 0 {

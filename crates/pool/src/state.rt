@@ -1,7 +1,7 @@
 // The state of a heap, which goes into a call by value and comes back by value.
 ghost use Rattle.std.specs.Prelude.{◌≡◌};
 ghost use Rattle.pool.specs.World.{chain_set};
-ghost use Rattle.pool.specs.Fresh.{topped_with};
+ghost use Rattle.pool.specs.Fresh.{top_shown};
 
 use keys::{Kind, Words};
 
@@ -28,27 +28,15 @@ pub struct Head {
 }
 
 impl Head {
-    // An empty heap's, with this top.
-    #[tactic(auto, unfolding(crate::specs::Fresh::topped_with))]
-    pub fn fresh(kind: Kind, top: Option<Words>) -> Head
-        ensures { result ≡ topped_with kind top }
+    // The top, if there is one.
+    #[tactic(auto, unfolding(crate::specs::Fresh::top_shown))]
+    pub fn top(self) -> Option<Words>
+        ensures { result ≡ top_shown self }
     {
-        match top {
-            Some(key) => Head {
-                kind,
-                len: 0,
-                topped: true,
-                top0: key.first,
-                top1: key.second,
-            },
-            None => Head {
-                kind,
-                len: 0,
-                topped: false,
-                top0: 0,
-                top1: 0,
-            },
+        if self.topped {
+            return Some(self.top_words());
         }
+        None
     }
 
     // The words of the top, whether or not there is one.

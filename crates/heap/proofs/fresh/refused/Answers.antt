@@ -1,8 +1,6 @@
--- `heap::fresh::refused` meets its contract: the state as it is written. Assumes nothing.
-use Rattle.pool.specs.Fresh.{topped_with}
-use Rattle.pool.specs.World.{no_state}
+-- `heap::fresh::refused` meets its contract: the state of a fresh heap with no slots and no kind is all zero. Assumes nothing.
+use Rattle.heap.proofs.CodeFresh.{no_slots}
 use Rattle.heap.proofs.fresh.refused.Goals as goal
 
 pub returns-clause-state : goal.returns-clause-state
-unfolding no_state topped_with
-returns-clause-state c = rw (c.fresh.ensures, c.bare.ensures)
+returns-clause-state c = rw (c.fresh_state.ensures, c.bare.ensures) no_slots
