@@ -5,7 +5,7 @@ ghost use Rattle.keys.specs.Ordered.{pair_form};
 use crate::key::Key;
 use crate::words::{Words, apart};
 
-#[derive(Clone, Copy, PartialEq, Eq, Debug)]
+#[derive(Clone, Copy, PartialEq, Eq, PartialOrd, Ord, Debug)]
 pub struct Pair(pub u64, pub u64);
 
 impl From<Words> for Pair {
@@ -33,10 +33,7 @@ impl Key for Pair {
     ghost form = { λ key. pair_form key.0 key.1 };
 
     fn above(self, other: Pair) -> bool {
-        if self.0 == other.0 {
-            return self.1 > other.1;
-        }
-        self.0 > other.0
+        self > other
     }
 
     // One count of leading zeros: of the first words' differing bits, or, where those words are equal, of
