@@ -5,7 +5,7 @@ ghost use Rattle.keys.specs.Ordered.{pair_form};
 use crate::key::Key;
 use crate::words::{Words, apart};
 
-#[derive(Clone, Copy, PartialEq, Eq, PartialOrd, Ord, Debug)]
+#[derive(Clone, Copy, PartialEq, Eq, Debug)]
 pub struct Pair(pub u64, pub u64);
 
 impl From<Words> for Pair {
@@ -33,7 +33,10 @@ impl Key for Pair {
     ghost form = { λ key. pair_form key.0 key.1 };
 
     fn above(self, other: Pair) -> bool {
-        self > other
+        if self.0 == other.0 {
+            return self.1 > other.1;
+        }
+        self.0 > other.0
     }
 
     // One count of leading zeros: of the first words' differing bits, or, where those words are equal, of
