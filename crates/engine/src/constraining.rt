@@ -19,7 +19,10 @@ fn to_drain(state: &State) -> Option<usize>
     if state.head.topped {
         return match pool::first_busy(&state.busy) {
             Some(bucket) if bucket > 0 && bucket < pool::WAITING => Some(bucket),
-            _ => None,
+            // Bucket 0 is not drained, and a bit past the buckets stands for none.
+            Some(_) => None,
+            // No bucket is busy.
+            None => None,
         };
     }
     if state.first[pool::WAITING] == 0 {

@@ -1,6 +1,6 @@
 -- The code of the busy words against its definitions: laws on plain values, which the proofs of its functions apply.
 use mathlib.Core.Path.{◌≡◌, refl, sym, ap, ◌∙◌}
-use mathlib.Core.Bool.{false}
+use mathlib.Core.Bool.{Bool, true, false}
 use mathlib.Core.List.{List}
 use Prim.Native.Nat.{ℕ, suc, ◌+◌, ◌-◌, ◌*◌, ◌/◌, ◌%◌, ◌^◌, ◌≤◌, ◌<◌}
 use native.Mathlib.Nat.{one-mul, mod-eq_of_lt}
@@ -12,9 +12,9 @@ use lib.Dec.{eqb}
 use lib.ListN.{get_or, set}
 use lib.Pow.{pow-lt}
 use Rattle.pool.specs.World.{waiting_chain}
-use Rattle.pool.specs.Marks.{marked, unmarked, lowest_from, lowest, same_words}
+use Rattle.pool.specs.Marks.{marked, unmarked, lowest_from, lowest, any_set_from, any_set, same_words}
 use Rattle.pool.proofs.Marks.{marked_is, unmarked_is}
-use Rattle.pool.proofs.Lowest.{lowest_none, lowest_some, lowest_over}
+use Rattle.pool.proofs.Lowest.{lowest_none, lowest_some, lowest_over, set_none, set_some, set_over}
 
 -- a one, shifted within a word
 shifted_one : (k : ℕ) → k < 64 → 1 * 2 ^ k % 2 ^ 64 ≡ 2 ^ k
@@ -44,6 +44,25 @@ module _ (words : List ℕ) (j : ℕ) where
 
   pub low_end : 3 ≤ j → from ≡ waiting_chain
   low_end h = ap (λ (m : ℕ). lowest_from m words j) (omega arith) ∙ lowest_over words j
+
+  abbrev set_from : Bool
+  set_from = any_set_from (3 - j) words j
+
+  set_at : j < 3 → set_from ≡ any_set_from (suc (3 - (j + 1))) words j
+  set_at l = ap (λ (m : ℕ). any_set_from m words j) (omega arith)
+
+  pub set_on : j < 3 → get_or words j 0 ≡ 0 → set_from ≡ any_set_from (3 - (j + 1)) words (j + 1)
+  set_on l e = set_at l ∙ set_none words (3 - (j + 1)) j e
+
+  pub set_stop : j < 3 → (get_or words j 0 ≡ 0 → ⊥) → set_from ≡ true
+  set_stop l n = set_at l ∙ set_some words (3 - (j + 1)) j n
+
+  pub set_end : 3 ≤ j → set_from ≡ false
+  set_end h = ap (λ (m : ℕ). any_set_from m words j) (omega arith) ∙ set_over words j
+
+pub set_start : (words : List ℕ) → any_set words ≡ any_set_from 3 words 0
+unfolding any_set
+set_start words = refl
 
 pub low_start : (words : List ℕ) → lowest words ≡ lowest_from 3 words 0
 unfolding lowest

@@ -1,7 +1,7 @@
 -- The first busy bucket: the lowest bit of a summary leads to the first bucket that has a first link.
 use mathlib.Core.Path.{◌≡◌, refl, sym, ap, ap₂, ◌∙◌}
 use mathlib.Core.Logic.{◌≢◌}
-use mathlib.Core.Bool.{cond}
+use mathlib.Core.Bool.{true, false, cond}
 use mathlib.Core.List.{List}
 use Prim.Native.Nat.{ℕ, zero, suc, ◌+◌, ◌*◌, ◌/◌, ◌%◌}
 use native.Mathlib.Nat.{add-zero, zero-add, suc-add}
@@ -12,7 +12,7 @@ use lib.Count.{count_trailing_zeros, under}
 use lib.Dec.{eqb}
 use lib.ListN.{get_or}
 use Rattle.pool.specs.World.{waiting_chain}
-use Rattle.pool.specs.Marks.{flag, bits, summary, lowest_from, lowest}
+use Rattle.pool.specs.Marks.{flag, bits, summary, lowest_from, lowest, any_set_from}
 use Rattle.pool.specs.Core.{busy_from}
 use Rattle.pool.proofs.Marks.{flag_le, flag_none, flag_some, flag_zero, bits_step, bits_none, bits_odd, bits_half}
 
@@ -67,6 +67,18 @@ module _ (words : List ℕ) (m j : ℕ) where
   pub lowest_some : get_or words j 0 ≢ 0 → lowest_from (suc m) words j ≡ 64 * j + count_trailing_zeros 64 (get_or words j 0)
   unfolding lowest_from
   lowest_some e = rw (ne_eqb (get_or words j 0) 0 e)
+
+  pub set_none : get_or words j 0 ≡ 0 → any_set_from (suc m) words j ≡ any_set_from m words (j + 1)
+  unfolding any_set_from
+  set_none e = rw (eq-eqb (get_or words j 0) 0 e)
+
+  pub set_some : get_or words j 0 ≢ 0 → any_set_from (suc m) words j ≡ true
+  unfolding any_set_from
+  set_some e = rw (ne_eqb (get_or words j 0) 0 e)
+
+pub set_over : (words : List ℕ) (j : ℕ) → any_set_from 0 words j ≡ false
+unfolding any_set_from
+set_over words j = refl
 
 pub lowest_over : (words : List ℕ) (j : ℕ) → lowest_from 0 words j ≡ waiting_chain
 unfolding lowest_from

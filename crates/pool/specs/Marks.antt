@@ -1,5 +1,5 @@
 -- The busy words: "three u64 words with one bit for each bucket, bit set exactly when the bucket isn't empty, bits above 128 zero".
-use Rattle.std.specs.Prelude.{Bool, cond, ◌&&◌, List, [], ◌∷◌, ℕ, zero, suc, ◌+◌, ◌-◌, ◌*◌, ◌/◌, ◌%◌, ◌^◌, ltb, eqb, get_or, set}
+use Rattle.std.specs.Prelude.{Bool, true, false, cond, ◌&&◌, List, [], ◌∷◌, ℕ, zero, suc, ◌+◌, ◌-◌, ◌*◌, ◌/◌, ◌%◌, ◌^◌, ltb, eqb, get_or, set}
 use Rattle.std.specs.Int.Bits.{bit_and, bit_or}
 use Rattle.std.specs.Int.Count.{count_trailing_zeros}
 use Rattle.pool.specs.World.{waiting_chain}
@@ -48,6 +48,15 @@ lowest_from (suc m) words j =
 unfoldable pub lowest : List ℕ → ℕ
 unfolding lowest_from
 lowest words = lowest_from 3 words 0
+
+-- is any bit set, in m words from word j on?
+unfoldable pub any_set_from : ℕ → List ℕ → ℕ → Bool
+any_set_from zero words j = false
+any_set_from (suc m) words j = cond (eqb (get_or words j 0) 0) (any_set_from m words (j + 1)) true
+
+unfoldable pub any_set : List ℕ → Bool
+unfolding any_set_from
+any_set words = any_set_from 3 words 0
 
 -- are the three words the same?
 unfoldable pub same_words : List ℕ → List ℕ → Bool

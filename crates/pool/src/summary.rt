@@ -1,7 +1,7 @@
 // The busy words: bit b % 64 of word b / 64 says whether bucket b holds an entry.
-ghost use Rattle.std.specs.Prelude.{◌≡◌, unwrap_or};
+ghost use Rattle.std.specs.Prelude.{◌≡◌, unwrap_or, is_some};
 ghost use Rattle.pool.specs.World.{waiting_chain};
-ghost use Rattle.pool.specs.Marks.{marked, unmarked, lowest};
+ghost use Rattle.pool.specs.Marks.{marked, unmarked, lowest, any_set};
 
 use crate::state::WAITING;
 
@@ -26,9 +26,9 @@ pub fn unmark(busy: &mut [u64; 3], chain: usize)
 }
 
 // The first bucket that is not empty, counting up from 0, if there is one.
-#[tactic(auto, using(crate::proofs::CodeMarks::low_start, crate::proofs::CodeMarks::low_on, crate::proofs::CodeMarks::low_stop, crate::proofs::CodeMarks::low_end))]
 pub fn first_busy(busy: &[u64; 3]) -> Option<usize>
-    ensures { unwrap_or result waiting_chain ≡ lowest busy.now }
+    ensures number { unwrap_or result waiting_chain ≡ lowest busy.now }
+    ensures found { is_some result ≡ any_set busy.now }
 {
     for j in 0..3 {
         let word = busy[j];

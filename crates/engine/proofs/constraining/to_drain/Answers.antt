@@ -7,20 +7,20 @@ use Rattle.engine.proofs.constraining.to_drain.Goals as goal
 
 pub returns-in-Some-clause-chain : goal.returns-in-Some-clause-chain
 returns-in-Some-clause-chain c =
-    bucket_some _ c.if-state.true (c.in-Some.ensures ∙ lowest_summary _ c.requires) (λ e. omega (arith, c.if-bucket-lt-WAITING.true, e))
+    bucket_some _ c.if-state.true (c.in-Some.ensures.number ∙ lowest_summary _ c.requires) (λ e. omega (arith, c.if-bucket-lt-WAITING.true, e))
 
-pub returns-in_default-clause-chain : goal.returns-in_default-clause-chain
-returns-in_default-clause-chain c =
-    let e = c.in-Some.ensures ∙ lowest_summary _ c.requires in
+pub returns-in-Some-2-clause-chain : goal.returns-in-Some-2-clause-chain
+returns-in-Some-2-clause-chain c =
+    let e = c.in-Some.ensures.number ∙ lowest_summary _ c.requires in
     bucket_none _ c.if-state.true e (omega (arith, bucket_low _ e, c.if-bucket-lt-WAITING.false))
 
-pub returns-in_default-2-clause-chain : goal.returns-in_default-2-clause-chain
-returns-in_default-2-clause-chain c =
-    let p = bucket_some _ c.if-state.true (c.in-Some.ensures ∙ lowest_summary _ c.requires) (λ e. omega (arith, c.if-bucket-gt0.false, e)) in
+pub returns-in-Some-2-2-clause-chain : goal.returns-in-Some-2-2-clause-chain
+returns-in-Some-2-2-clause-chain c =
+    let p = bucket_some _ c.if-state.true (c.in-Some.ensures.number ∙ lowest_summary _ c.requires) (λ e. omega (arith, c.if-bucket-gt0.false, e)) in
     omega (arith, p, c.if-bucket-gt0.false)
 
-pub returns-in_default-3-clause-chain : goal.returns-in_default-3-clause-chain
-returns-in_default-3-clause-chain c = bucket_none _ c.if-state.true (c.in_default.ensures ∙ lowest_summary _ c.requires) refl
+pub returns-in-None-clause-chain : goal.returns-in-None-clause-chain
+returns-in-None-clause-chain c = bucket_none _ c.if-state.true (c.in-None.ensures.number ∙ lowest_summary _ c.requires) refl
 
 pub returns-then-state-eq0-clause-chain : goal.returns-then-state-eq0-clause-chain
 returns-then-state-eq0-clause-chain c = waiting_none _ c.if-state.false c.if-state-eq0.true
