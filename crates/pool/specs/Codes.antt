@@ -21,8 +21,8 @@ unfolding refusal_code
 told (Ok x) = 0
 told (Err r) = refusal_code r
 
--- the refusal that a number names, if it names one
+-- the refusal that a number names; else the number itself, which names none
 unfoldable pub Names : ℕ → Result Refusal UnknownCode → Type 0
 unfolding refusal_code
 Names n (Ok r) = refusal_code r ≡ n
-Names n (Err e) = (r : Refusal) → refusal_code r ≡ n → ⊥
+Names n (Err e) = (e.0 ≡ n) × ((r : Refusal) → refusal_code r ≡ n → ⊥)
