@@ -39,6 +39,20 @@ impl Head {
         None
     }
 
+    // The same head, made from its fields, for callers that hand heads on by value: a copy of the whole
+    // carries its padding along (docs/PERFORMANCE.md).
+    pub fn anew(self) -> Head
+        ensures { result ≡ self }
+    {
+        Head {
+            kind: self.kind,
+            len: self.len,
+            topped: self.topped,
+            top0: self.top0,
+            top1: self.top1,
+        }
+    }
+
     // The words of the top, whether or not there is one.
     pub fn top_words(self) -> Words
         ensures first { result.first ≡ self.top0 }
