@@ -1,8 +1,9 @@
 // The key of a slot against another. "For pairs the second word counts only if the first words are
 // equal": elsewhere it is not read, and 0 stands for it. Kind 5 is told apart first, so that the
 // compiler makes a loop of its own for it, and the loops along keys of the other kinds stay as short as
-// they are without it. Order and distance have a function each: one for both would take a closure, and a
-// clause for it.
+// they are without it. Kinds are told by their numbers here: told by `Kind::name`, the compiler makes one
+// loop for all of them (docs/PERFORMANCE.md). Order and distance have a function each: one for both would
+// take a closure, and a clause for it.
 ghost use Rattle.std.specs.Prelude.{◌≡◌, ◌≢◌, ◌<◌, ◌^◌, not, ◌&&◌, ltb, eqb};
 ghost use Rattle.rule.specs.Width.{distance};
 ghost use Rattle.keys.specs.Ordered.{width, ordered};
@@ -10,7 +11,7 @@ ghost use Rattle.pool.specs.World.{key_word0, key_word1, slot_key};
 ghost use Rattle.pool.specs.Fine.{Holds};
 
 use crate::keywords::key_at;
-use keys::{Kind, KindName, Reader, Words};
+use keys::{Kind, Reader, Words};
 
 // The key of a slot, by where its words stand. The first is read already, and in kind 5 it is any word.
 // The second waits: read or not, it is below 2^64.
@@ -29,7 +30,7 @@ pub struct SlotKey<'a> {
 fn is_pair(kind: Kind) -> bool
     ensures { result ≡ eqb kind.number 4 }
 {
-    matches!(kind.name(), KindName::Pair)
+    kind.number == 4
 }
 
 // Are these the first words of pairs, and different, so that they decide?
@@ -46,6 +47,7 @@ impl<'a> SlotKey<'a> {
     pub fn of(kind: Kind, keys: &'a [u64], slot: usize) -> SlotKey<'a>
         requires { Holds kind keys.now slot }
         ensures kind { result.kind ≡ kind }
+        ensures slot { result.slot ≡ slot }
         ensures key { key_of result ≡ slot_key kind keys.now slot }
     {
         let first = if is_pair(kind) {
@@ -79,40 +81,34 @@ impl<'a> SlotKey<'a> {
         }
     }
 
-    // The words of this key and of the other as far as they count: the order and the distance of the two
-    // are those of the whole keys, in every kind but 5.
-    #[tactic(auto, using(crate::proofs::CodeAgainst::above_unread, crate::proofs::CodeAgainst::far_unread))]
-    fn counted(self, other: Words) -> (Words, Words)
-        requires { self.kind.number ≢ 5 }
-        ensures above { ltb (ordered self.entry.kind result.1.first result.1.second) (ordered self.entry.kind result.0.first result.0.second) ≡ ltb (ordered self.entry.kind other.first other.second) (key_of self.entry) }
-        ensures far { distance (width self.entry.kind) (ordered self.entry.kind result.0.first result.0.second) (ordered self.entry.kind result.1.first result.1.second) ≡ distance (width self.entry.kind) (key_of self.entry) (ordered self.entry.kind other.first other.second) }
-    {
-        if first_decides(self.kind, self.first, other.first) {
-            return (Words::from(self.first), Words::from(other.first));
-        }
-        (self.bare_words(), other)
-    }
-
-    // Is this key above the other, in every kind but 5?
+    // Is this key above the other, in every kind but 5? Here and below each way ends in a call of its own, so
+    // that no choice of words is carried through a loop.
+    #[tactic(auto, using(crate::proofs::CodeAgainst::above_unread))]
     pub fn bare_above(self, other: Words) -> bool
         requires { self.kind.number ≢ 5 }
         ensures { result ≡ ltb (ordered self.entry.kind other.first other.second) (key_of self.entry) }
     {
-        let (own, other) = self.counted(other);
-        keys::above_bare(self.kind, own, other)
+        if first_decides(self.kind, self.first, other.first) {
+            return keys::above_bare(self.kind, Words::from(self.first), Words::from(other.first));
+        }
+        keys::above_bare(self.kind, self.bare_words(), other)
     }
 
     // How far is this key from the other, in every kind but 5?
+    #[tactic(auto, using(crate::proofs::CodeAgainst::far_unread))]
     pub fn bare_distance(self, other: Words) -> u32
         requires { self.kind.number ≢ 5 }
         ensures { result ≡ distance (width self.entry.kind) (key_of self.entry) (ordered self.entry.kind other.first other.second) }
     {
-        let (own, other) = self.counted(other);
-        keys::distance_bare(self.kind, own, other)
+        if first_decides(self.kind, self.first, other.first) {
+            let (own, other) = (Words::from(self.first), Words::from(other.first));
+            return keys::distance_bare(self.kind, own, other);
+        }
+        keys::distance_bare(self.kind, self.bare_words(), other)
     }
 
-    // Is this key above that of the other slot, in every kind but 5? Not by `counted`: that takes the other
-    // key whole, and of the other slot too the second word waits.
+    // Is this key above that of the other slot, in every kind but 5? Of the other slot too the second word
+    // waits.
     #[tactic(auto, using(crate::proofs::CodeAgainst::above_unread))]
     fn bare_above_slot(self, other: SlotKey<'_>) -> bool
         requires unmixed { self.kind.number ≢ 5 }
@@ -134,39 +130,36 @@ impl<'a> SlotKey<'a> {
     }
 
     // Is this key above the other?
-    #[tactic(auto, using(keys::proofs::Names::not_mixed))]
     pub fn above(self, reader: Reader, other: Words) -> bool
         requires { reader.kind ≡ self.kind }
         ensures { result ≡ ltb (ordered self.entry.kind other.first other.second) (key_of self.entry) }
     {
-        match self.kind.name() {
-            KindName::Mixed => reader.above(self.words(), other),
-            _ => self.bare_above(other),
+        if self.kind.number == 5 {
+            return reader.above(self.words(), other);
         }
+        self.bare_above(other)
     }
 
     // How far is this key from the other?
-    #[tactic(auto, using(keys::proofs::Names::not_mixed))]
     pub fn distance(self, reader: Reader, other: Words) -> u32
         requires { reader.kind ≡ self.kind }
         ensures { result ≡ distance (width self.entry.kind) (key_of self.entry) (ordered self.entry.kind other.first other.second) }
     {
-        match self.kind.name() {
-            KindName::Mixed => reader.distance(self.words(), other),
-            _ => self.bare_distance(other),
+        if self.kind.number == 5 {
+            return reader.distance(self.words(), other);
         }
+        self.bare_distance(other)
     }
 
     // Is this key above that of the other slot?
-    #[tactic(auto, using(keys::proofs::Names::not_mixed))]
     pub fn above_slot(self, reader: Reader, other: SlotKey<'_>) -> bool
         requires reads { reader.kind ≡ self.kind }
         requires same { other.kind ≡ self.kind }
         ensures { result ≡ ltb (key_of other.entry) (key_of self.entry) }
     {
-        match self.kind.name() {
-            KindName::Mixed => self.above(reader, other.words()),
-            _ => self.bare_above_slot(other),
+        if self.kind.number == 5 {
+            return self.above(reader, other.words());
         }
+        self.bare_above_slot(other)
     }
 }
