@@ -96,7 +96,9 @@ fn whole_words() -> Masks
     }
 }
 
-// The masks of a table. One that breaks the limits is read as two words.
+// The masks of a table. One that breaks the limits is read as two words. The function stays a
+// call, so that keys of other kinds, which have no use for masks, do not pay for it (docs/PERFORMANCE.md).
+#[inline(never)]
 pub fn table_masks(table: Table) -> Masks
     ensures { Masked result (mixed_parts table) }
 {
