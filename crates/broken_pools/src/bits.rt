@@ -4,7 +4,6 @@ use crate::sample::{Sample, unsound};
 use crate::shown::show;
 use keys::{Kind, KindName, REVERSED, SIGNED, Table};
 use pool::{CHAINS, FREE, Head, State};
-use std::io;
 
 const QUARTER: u64 = 1 << 62;
 
@@ -97,8 +96,8 @@ fn turned(kind: Kind, bit: usize) -> Sample {
     sample
 }
 
-pub fn each_word(rt: &impl Print, kind: Kind) -> io::Result<()> {
-    show(rt, "the ends of the busy words", ends(kind))?;
+pub fn each_word(rt: &impl Print, kind: Kind) {
+    show(rt, "the ends of the busy words", ends(kind));
     let wide = keys::is_wide(kind);
     let bits = [
         (0, true),
@@ -114,11 +113,11 @@ pub fn each_word(rt: &impl Print, kind: Kind) -> io::Result<()> {
     for (bit, due) in bits {
         let wrong = if due { "not set" } else { "set" };
         let code = pool::code(turned(kind, bit).told());
-        println!(rt; "kind {}, busy bit {bit} {wrong}: {code}", kind.number)?;
+        let _ = println!(rt; "kind {}, busy bit {bit} {wrong}: {code}", kind.number);
     }
     let refused = unsound(192, |bit| turned(kind, bit));
-    println!(rt;
+    let _ = println!(rt;
         "kind {}, of 192 busy bits turned over, refused: {refused}",
         kind.number
-    )
+    );
 }

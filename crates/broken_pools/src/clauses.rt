@@ -4,23 +4,22 @@ use crate::sample::Sample;
 use crate::shown::{line, show};
 use keys::Kind;
 use pool::{CHAINS, FREE, State, View, WAITING};
-use std::io;
 
-pub fn sound(rt: &impl Print, kind: Kind) -> io::Result<()> {
-    show(rt, "sound, with a top", Sample::with_top(kind))?;
+pub fn sound(rt: &impl Print, kind: Kind) {
+    show(rt, "sound, with a top", Sample::with_top(kind));
     show(rt, "sound, entries waiting", Sample::waiting(kind))
 }
 
 // "Every slot is on exactly one chain"; "length counts the slots outside the free chain".
-pub fn chains(rt: &impl Print, kind: Kind) -> io::Result<()> {
+pub fn chains(rt: &impl Print, kind: Kind) {
     let sample = Sample::with_top(kind);
     let mut lost = sample;
     lost.next[3] = 0;
     lost.state.last[FREE] = 4;
-    show(rt, "a slot on no chain", lost)?;
-    show(rt, "a slot on two chains", shared(kind))?;
+    show(rt, "a slot on no chain", lost);
+    show(rt, "a slot on two chains", shared(kind));
     let fewer = sample.with(|s| s.state.head.len = 2);
-    show(rt, "the length too small", fewer)?;
+    show(rt, "the length too small", fewer);
     let more = sample.with(|s| s.state.head.len = 4);
     show(rt, "the length too great", more)
 }
@@ -41,24 +40,24 @@ fn shared(kind: Kind) -> Sample {
 
 // "Next links run from first to last and end in 0; back links run the other way, but are 0 on the
 // free chain; an empty chain has first and last 0".
-pub fn links(rt: &impl Print, kind: Kind) -> io::Result<()> {
+pub fn links(rt: &impl Print, kind: Kind) {
     let sample = Sample::with_top(kind);
     let wrong_last = sample.with(|s| s.state.last[0] = 1);
-    show(rt, "a last link that is not the last slot", wrong_last)?;
+    show(rt, "a last link that is not the last slot", wrong_last);
     let circle = sample.with(|s| s.next[1] = 1);
-    show(rt, "next links in a circle", circle)?;
+    show(rt, "next links in a circle", circle);
     let outside = sample.with(|s| s.next[1] = 9);
-    show(rt, "a next link past the slots", outside)?;
+    show(rt, "a next link past the slots", outside);
     let unset = sample.with(|s| s.back[1] = 0);
-    show(rt, "a back link not set", unset)?;
+    show(rt, "a back link not set", unset);
     let set = sample.with(|s| s.back[4] = 4);
-    show(rt, "a back link on the free chain", set)?;
+    show(rt, "a back link on the free chain", set);
     let half_empty = sample.with(|s| s.state.last[100] = 3);
     show(rt, "an empty chain with a last link", half_empty)
 }
 
 // "With no top, the buckets are empty and both top words are 0".
-pub fn no_top(rt: &impl Print, kind: Kind) -> io::Result<()> {
+pub fn no_top(rt: &impl Print, kind: Kind) {
     let sample = Sample::waiting(kind);
     let mut state = sample.state;
     (state.first[0], state.last[0]) = (1, 3);
@@ -66,18 +65,18 @@ pub fn no_top(rt: &impl Print, kind: Kind) -> io::Result<()> {
     state.busy = [1, 0, 0];
     let mut busy = sample;
     busy.state = state;
-    show(rt, "no top, a bucket that is not empty", busy)?;
+    show(rt, "no top, a bucket that is not empty", busy);
     let worded = sample.with(|s| s.state.head.top0 = 1);
     show(rt, "no top, a first top word", worded)
 }
 
 // "With a top, the waiting chain is empty, every key is at most the top, and stands in the bucket of its
 // distance to the top".
-pub fn a_top(rt: &impl Print, kind: Kind) -> io::Result<()> {
+pub fn a_top(rt: &impl Print, kind: Kind) {
     let layout = Layout::of(kind);
     let late = Sample::laid_out(kind, layout.moved_to(WAITING, [1, 0, 0]));
-    show(rt, "a top, and an entry waiting", late)?;
-    show(rt, "keys above the top", above(kind, layout))?;
+    show(rt, "a top, and an entry waiting", late);
+    show(rt, "keys above the top", above(kind, layout));
     let astray = Sample::laid_out(kind, layout.moved_to(6, [65, 0, 0]));
     show(rt, "an entry in another bucket", astray)
 }
@@ -95,22 +94,21 @@ fn above(kind: Kind, layout: Layout) -> Sample {
 }
 
 // "Free slots hold zero key and value".
-pub fn free(rt: &impl Print, kind: Kind) -> io::Result<()> {
+pub fn free(rt: &impl Print, kind: Kind) {
     let wide = keys::is_wide(kind);
     let sample = Sample::with_top(kind);
     let keyed = sample.with(|s| s.keys[if wide { 8 } else { 4 }] = 1);
-    show(rt, "a free slot with a key", keyed)?;
+    show(rt, "a free slot with a key", keyed);
     let valued = sample.with(|s| s.values[4] = 1);
-    show(rt, "a free slot with a value", valued)?;
+    show(rt, "a free slot with a value", valued);
     if !wide {
         let worded = sample.with(|s| s.state.head.top1 = 1);
-        show(rt, "a second top word", worded)?;
+        show(rt, "a second top word", worded);
     }
-    Ok(())
 }
 
 // Code 1: a kind that is not 1 to 6, and "slice lengths unfit". Kind 5 is set with no table.
-pub fn unfit(rt: &impl Print, kind: Kind) -> io::Result<()> {
+pub fn unfit(rt: &impl Print, kind: Kind) {
     let sample = Sample::with_top(kind);
     let view = sample.view();
     let (keys, values) = (&sample.keys[..6], &sample.values[..4]);
@@ -122,7 +120,7 @@ pub fn unfit(rt: &impl Print, kind: Kind) -> io::Result<()> {
         ("a back link short", View { back, ..view }),
     ];
     for (text, view) in views {
-        line(rt, kind, text, pool::examine(&sample.state, view))?;
+        line(rt, kind, text, pool::examine(&sample.state, view));
     }
     let kinds = [
         ("the kind set to 0", 0),
@@ -131,21 +129,20 @@ pub fn unfit(rt: &impl Print, kind: Kind) -> io::Result<()> {
     ];
     for (text, number) in kinds {
         let other = sample.with(|s| s.state.head.kind = Kind::bare(number));
-        show(rt, text, other)?;
+        show(rt, text, other);
     }
-    Ok(())
 }
 
 // What only keys of two words can break: their second words.
-pub fn second_words(rt: &impl Print, kind: Kind) -> io::Result<()> {
+pub fn second_words(rt: &impl Print, kind: Kind) {
     let topped = Sample::waiting(kind).with(|s| s.state.head.top1 = 1);
-    show(rt, "no top, a second top word", topped)?;
+    show(rt, "no top, a second top word", topped);
     let keyed = Sample::with_top(kind).with(|s| s.keys[9] = 1);
     show(rt, "a free slot with a second key word", keyed)
 }
 
 // 4,096 slots are the most: one more is not fit, and all zero they are fit and not sound.
-pub fn too_many_slots(rt: &impl Print) -> io::Result<()> {
+pub fn too_many_slots(rt: &impl Print) {
     let kind = Kind::bare(1);
     let state = State {
         head: Sample::waiting(kind).state.head,
@@ -162,7 +159,6 @@ pub fn too_many_slots(rt: &impl Print) -> io::Result<()> {
             next: &links[..slots],
             back: &links[..slots],
         };
-        line(rt, kind, text, pool::examine(&state, view))?;
+        line(rt, kind, text, pool::examine(&state, view));
     }
-    Ok(())
 }

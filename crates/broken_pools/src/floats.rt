@@ -3,7 +3,6 @@ use crate::layout::{Layout, MINUS_ONE};
 use crate::sample::{Sample, unsound};
 use crate::shown::show;
 use keys::Kind;
-use std::io;
 
 const MINUS_ZERO: u64 = 1 << 63;
 
@@ -33,14 +32,14 @@ const MINUS_EDGES: [(&str, u64); 3] = [
 ];
 
 // Only their order and their distance tell the zeros apart.
-pub fn zeros(rt: &impl Print) -> io::Result<()> {
+pub fn zeros(rt: &impl Print) {
     let kind = Kind::bare(6);
     let busy = [1, 1, 0];
     let below = Sample::laid_out(kind, Layout::one_word(0, MINUS_ZERO, 64, busy));
-    show(rt, "sound, minus zero below plus zero", below)?;
+    show(rt, "sound, minus zero below plus zero", below);
     let mut equal = Sample::laid_out(kind, Layout::one_word(0, MINUS_ONE, 64, busy));
     equal.keys[1] = MINUS_ZERO;
-    show(rt, "minus zero in the bucket of plus zero", equal)?;
+    show(rt, "minus zero in the bucket of plus zero", equal);
     let above = Sample::laid_out(kind, Layout::one_word(MINUS_ZERO, 0, 64, busy));
     show(rt, "plus zero below minus zero", above)
 }
@@ -71,27 +70,26 @@ fn show_each<F: Fn(u64) -> Sample>(
     keys: [(&str, u64); 3],
     place: &str,
     sample_with: F,
-) -> io::Result<()>
+)
     requires { F.IsAlwaysCallable sample_with }
 {
     for (name, key) in keys {
         let code = pool::code(sample_with(key).told());
-        println!(rt; "kind 6, {name} {place}: {code}")?;
+        let _ = println!(rt; "kind 6, {name} {place}: {code}");
     }
-    Ok(())
 }
 
-pub fn waiting_edges(rt: &impl Print) -> io::Result<()> {
-    show_each(rt, EDGES, "waiting", in_wait)?;
+pub fn waiting_edges(rt: &impl Print) {
+    show_each(rt, EDGES, "waiting", in_wait);
     show_each(rt, MINUS_EDGES, "waiting", in_wait)
 }
 
-pub fn bucket_edges(rt: &impl Print) -> io::Result<()> {
+pub fn bucket_edges(rt: &impl Print) {
     show_each(rt, MINUS_EDGES, "in a bucket", in_a_bucket)
 }
 
-pub fn top_edges(rt: &impl Print) -> io::Result<()> {
-    show_each(rt, EDGES, "as top", at_the_top)?;
+pub fn top_edges(rt: &impl Print) {
+    show_each(rt, EDGES, "as top", at_the_top);
     show_each(rt, MINUS_EDGES, "as top", at_the_top)
 }
 
@@ -102,32 +100,32 @@ fn turned(key: u64, bit: usize) -> u64 {
 
 // How many of the 64 bits are refused, each turned over by itself: the 52 below the exponent, and no
 // other. Without a bit of its exponent it is a number, and with the other sign an infinity.
-pub fn each_bit_of_an_infinity(rt: &impl Print) -> io::Result<()> {
+pub fn each_bit_of_an_infinity(rt: &impl Print) {
     let keys = [
         ("the infinity", INFINITY),
         ("minus the infinity", MINUS_INFINITY),
     ];
     for (name, key) in keys {
         let waiting = unsound(64, |bit| in_wait(turned(key, bit)));
-        println!(rt; "kind 6, of 64 bits of {name} waiting, turned over, refused: {waiting}")?;
+        let _ = println!(rt;
+            "kind 6, of 64 bits of {name} waiting, turned over, refused: {waiting}"
+        );
         let top = unsound(64, |bit| at_the_top(turned(key, bit)));
-        println!(rt; "kind 6, of 64 bits of {name} as top, turned over, refused: {top}")?;
+        let _ = println!(rt; "kind 6, of 64 bits of {name} as top, turned over, refused: {top}");
     }
-    Ok(())
 }
 
 // Where there is no key the words are zero, and minus zero is not.
-pub fn nowhere(rt: &impl Print) -> io::Result<()> {
+pub fn nowhere(rt: &impl Print) {
     let keys = [("a NaN", FIRST_NAN), ("minus zero", MINUS_ZERO)];
     let sample = Sample::with_top(Kind::bare(6));
     for (name, key) in keys {
         let code = pool::code(sample.with(|s| s.keys[4] = key).told());
-        println!(rt; "kind 6, a free slot with {name}: {code}")?;
+        let _ = println!(rt; "kind 6, a free slot with {name}: {code}");
     }
     let sample = Sample::waiting(Kind::bare(6));
     for (name, key) in keys {
         let code = pool::code(sample.with(|s| s.state.head.top0 = key).told());
-        println!(rt; "kind 6, no top, {name} as first top word: {code}")?;
+        let _ = println!(rt; "kind 6, no top, {name} as first top word: {code}");
     }
-    Ok(())
 }

@@ -6,7 +6,6 @@ use crate::shown::{line, show};
 use crate::tables::{by_table, zero_keys};
 use keys::{Kind, REVERSED, SIGNED, Table, Words};
 use pool::View;
-use std::io;
 
 // 2 ^ 56, the lowest bit above the planning desk's total, and all the bits below it.
 const ABOVE: u64 = 1 << 56;
@@ -55,11 +54,11 @@ fn of_128_bits() -> Sample {
     Sample::laid_out(Kind::mixed(four_parts()), layout)
 }
 
-pub fn sound(rt: &impl Print) -> io::Result<()> {
-    show(rt, "sound, two parts of 8 bits", of_16_bits())?;
-    show(rt, "sound, four parts of 32 bits", of_128_bits())?;
+pub fn sound(rt: &impl Print) {
+    show(rt, "sound, two parts of 8 bits", of_16_bits());
+    show(rt, "sound, four parts of 32 bits", of_128_bits());
     let full = planned_waiting().with(|s| s.keys[5] = BELOW);
-    show(rt, "sound, a key with all of 56 bits set", full)?;
+    show(rt, "sound, a key with all of 56 bits set", full);
     let mut full = zero_keys(four_parts());
     full.keys[4] = u64::MAX;
     full.keys[5] = u64::MAX;
@@ -67,34 +66,34 @@ pub fn sound(rt: &impl Print) -> io::Result<()> {
 }
 
 // The table says which key is above: the lower keys read by another one are above the top.
-pub fn sorts(rt: &impl Print) -> io::Result<()> {
+pub fn sorts(rt: &impl Print) {
     let straight = by_table(planned(), Table::of(32, 16, 8, 0));
-    show(rt, "a reversed part read as unsigned", straight)?;
+    show(rt, "a reversed part read as unsigned", straight);
     let unsigned = by_table(of_128_bits(), Table::of(32, 32, 32 + REVERSED, 32));
     show(rt, "a signed part read as unsigned", unsigned)
 }
 
 // The parts stay as they were, and with them order and distance: nothing else is wrong.
-pub fn above_the_total(rt: &impl Print) -> io::Result<()> {
+pub fn above_the_total(rt: &impl Print) {
     let (held, waiting) = (planned(), planned_waiting());
     let wide = held.with(|s| s.keys[5] ^= ABOVE);
-    show(rt, "a held key with bit 56", wide)?;
+    show(rt, "a held key with bit 56", wide);
     let worded = held.with(|s| s.keys[4] = 1);
-    show(rt, "a held key with a first word", worded)?;
+    show(rt, "a held key with a first word", worded);
     let wide = waiting.with(|s| s.keys[5] ^= ABOVE);
-    show(rt, "a waiting key with bit 56", wide)?;
+    show(rt, "a waiting key with bit 56", wide);
     let worded = waiting.with(|s| s.keys[4] = 1);
-    show(rt, "a waiting key with a first word", worded)?;
+    show(rt, "a waiting key with a first word", worded);
     let wide = held.with(|s| s.state.head.top1 ^= ABOVE);
-    show(rt, "a top with bit 56", wide)?;
+    show(rt, "a top with bit 56", wide);
     let worded = held.with(|s| s.state.head.top0 = 1);
     show(rt, "a top with a first word", worded)
 }
 
 // Where no bit is above the total, a first top word breaks only "with no top, .. both top words are 0".
-pub fn key_words(rt: &impl Print) -> io::Result<()> {
+pub fn key_words(rt: &impl Print) {
     let topped = zero_keys(four_parts()).with(|s| s.state.head.top0 = 1);
-    show(rt, "four parts, no top, a first top word", topped)?;
+    show(rt, "four parts, no top, a first top word", topped);
     let sample = of_16_bits();
     let view = View {
         keys: &sample.keys[..5],
@@ -145,19 +144,17 @@ fn tables() -> [(u8, Table); 5] {
 }
 
 // How many of the 128 bits are refused, each by itself: all that are not below the total, and no other.
-pub fn each_bit_of_a_key(rt: &impl Print) -> io::Result<()> {
+pub fn each_bit_of_a_key(rt: &impl Print) {
     for (total, table) in tables() {
         let refused = unsound(128, |bit| in_a_key(table, bit));
-        println!(rt; "kind 5, of 128 bits in a key of {total}, refused: {refused}")?;
+        let _ = println!(rt; "kind 5, of 128 bits in a key of {total}, refused: {refused}");
     }
-    Ok(())
 }
 
 // The same of the top; a parameter for what is turned over would need a clause longer than the loop.
-pub fn each_bit_of_a_top(rt: &impl Print) -> io::Result<()> {
+pub fn each_bit_of_a_top(rt: &impl Print) {
     for (total, table) in tables() {
         let refused = unsound(128, |bit| in_the_top(table, bit));
-        println!(rt; "kind 5, of 128 bits in a top of {total}, refused: {refused}")?;
+        let _ = println!(rt; "kind 5, of 128 bits in a top of {total}, refused: {refused}");
     }
-    Ok(())
 }

@@ -4,7 +4,6 @@ use crate::sample::Sample;
 use crate::shown::show;
 use keys::{Kind, REVERSED, Table};
 use pool::Refusal;
-use std::io;
 
 // The same pool by another table.
 pub fn by_table(sample: Sample, table: Table) -> Sample {
@@ -12,7 +11,7 @@ pub fn by_table(sample: Sample, table: Table) -> Sample {
 }
 
 // "Isn't zero in another kind": one code by itself, and a whole table.
-pub fn in_another_kind(rt: &impl Print, kind: Kind) -> io::Result<()> {
+pub fn in_another_kind(rt: &impl Print, kind: Kind) {
     let tables = [
         ("a table with a first code", Table::of(8, 0, 0, 0)),
         ("a table with a second code", Table::of(0, 8, 0, 0)),
@@ -21,9 +20,8 @@ pub fn in_another_kind(rt: &impl Print, kind: Kind) -> io::Result<()> {
         ("the planning desk's table", planning()),
     ];
     for (text, table) in tables {
-        show(rt, text, by_table(Sample::with_top(kind), table))?;
+        show(rt, text, by_table(Sample::with_top(kind), table));
     }
-    Ok(())
 }
 
 // Three entries with key 0 wait: sound by every table within the limits.
@@ -33,15 +31,14 @@ pub fn zero_keys(table: Table) -> Sample {
     sample
 }
 
-fn show_each(rt: &impl Print, tables: &[(&str, Table)]) -> io::Result<()> {
+fn show_each(rt: &impl Print, tables: &[(&str, Table)]) {
     for (text, table) in tables {
-        show(rt, text, zero_keys(*table))?;
+        show(rt, text, zero_keys(*table));
     }
-    Ok(())
 }
 
 // "Two to four components", those in use first.
-pub fn number_of_parts(rt: &impl Print) -> io::Result<()> {
+pub fn number_of_parts(rt: &impl Print) {
     let priority = 8 + REVERSED;
     let tables = [
         ("a table of no part", Table::of(0, 0, 0, 0)),
@@ -57,7 +54,7 @@ pub fn number_of_parts(rt: &impl Print) -> io::Result<()> {
 }
 
 // "Each 8, 16, 32 or 64 bits, unsigned, signed or reversed"; "the total is at most 128 bits".
-pub fn size_of_parts(rt: &impl Print) -> io::Result<()> {
+pub fn size_of_parts(rt: &impl Print) {
     let tables = [
         ("a part of 24 bits", Table::of(32, 24, 8, 0)),
         ("a part of sort 3", Table::of(32, 16, 8 + 3, 0)),
@@ -77,19 +74,19 @@ fn told_by<F: Fn(u8) -> Table>(due: Result<(), Refusal>, table_with: F) -> usize
 }
 
 // Every code in one place of a table.
-fn codes<F: Fn(u8) -> Table>(rt: &impl Print, place: &str, table_with: F) -> io::Result<()>
+fn codes<F: Fn(u8) -> Table>(rt: &impl Print, place: &str, table_with: F)
     requires { F.IsAlwaysCallable table_with }
 {
     let sound = told_by(Ok(()), &table_with);
-    println!(rt; "kind 5, of 255 {place} codes, sound: {sound}")?;
+    let _ = println!(rt; "kind 5, of 255 {place} codes, sound: {sound}");
     let unfit = told_by(Err(Refusal::Unfit), &table_with);
-    println!(rt; "kind 5, of 255 {place} codes, not fit: {unfit}")
+    let _ = println!(rt; "kind 5, of 255 {place} codes, not fit: {unfit}");
 }
 
 // Four widths and three sorts make twelve codes of a part; the other 243 are none.
-pub fn each_code(rt: &impl Print) -> io::Result<()> {
-    codes(rt, "first", |code| Table::of(code, 8, 0, 0))?;
-    codes(rt, "second", |code| Table::of(8, code, 0, 0))?;
-    codes(rt, "third", |code| Table::of(8, 8, code, 0))?;
+pub fn each_code(rt: &impl Print) {
+    codes(rt, "first", |code| Table::of(code, 8, 0, 0));
+    codes(rt, "second", |code| Table::of(8, code, 0, 0));
+    codes(rt, "third", |code| Table::of(8, 8, code, 0));
     codes(rt, "fourth", |code| Table::of(8, 8, 8, code))
 }

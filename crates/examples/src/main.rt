@@ -9,13 +9,11 @@ mod slots;
 mod small;
 mod trial;
 
-use std::io;
-
 fn outcome(passed: bool) -> &'static str {
     if passed { "passed" } else { "failed" }
 }
 
-fn examples(rt: &impl Print) -> io::Result<()> {
+fn examples(rt: &impl Print) {
     let examples = [
         one_kind::nine_keys().is_some(),
         one_kind::ties().is_some(),
@@ -31,12 +29,11 @@ fn examples(rt: &impl Print) -> io::Result<()> {
         small::two_slots().is_some(),
     ];
     for (number, passed) in (1..13).zip(examples) {
-        println!(rt; "example {number}: {}", outcome(passed))?;
+        let _ = println!(rt; "example {number}: {}", outcome(passed));
     }
-    Ok(())
 }
 
-fn float_keys(rt: &impl Print) -> io::Result<()> {
+fn float_keys(rt: &impl Print) {
     let tests = [
         ("honest zeros", floats::honest_zeros()),
         ("ordered as numbers", floats::in_order().is_some()),
@@ -53,12 +50,12 @@ fn float_keys(rt: &impl Print) -> io::Result<()> {
         ),
     ];
     for (text, passed) in tests {
-        println!(rt; "float keys, {text}: {}", outcome(passed))?;
+        let _ = println!(rt; "float keys, {text}: {}", outcome(passed));
     }
-    Ok(())
 }
 
-fn main(rt: HostRuntime) -> io::Result<()> {
-    examples(&rt)?;
-    float_keys(&rt)
+// A line that cannot be written is passed over: the next one is tried, and the status is 0.
+fn main(rt: HostRuntime) {
+    examples(&rt);
+    float_keys(&rt);
 }

@@ -1,7 +1,6 @@
 // Floats: made from their patterns and back, compared and measured, and told from NaNs.
 use crate::{line, order, rounds};
 use keys::{Float, Key, Kind, Words};
-use std::io;
 
 const ZERO: u64 = 0;
 
@@ -52,15 +51,15 @@ fn equal(word: u64) -> bool {
     !key.above(key) && key.distance(key) == 0
 }
 
-fn rounds_lines(rt: &impl Print) -> io::Result<()> {
-    line(rt, "float 0.0, -0.0: back the same", comes_back(ZERO))?;
-    line(rt, "float 1.0, -1.0: back the same", comes_back(ONE))?;
-    line(rt, "float inf, -inf: back the same", comes_back(INFINITY))?;
+fn rounds_lines(rt: &impl Print) {
+    line(rt, "float 0.0, -0.0: back the same", comes_back(ZERO));
+    line(rt, "float 1.0, -1.0: back the same", comes_back(ONE));
+    line(rt, "float inf, -inf: back the same", comes_back(INFINITY));
     line(
         rt,
         "float, every bit set: back the same",
         comes_back(LAST_NAN),
-    )?;
+    );
     line(
         rt,
         "float -0.0, -1.0: not above itself, distance 0",
@@ -68,27 +67,27 @@ fn rounds_lines(rt: &impl Print) -> io::Result<()> {
     )
 }
 
-fn signs_lines(rt: &impl Print) -> io::Result<()> {
+fn signs_lines(rt: &impl Print) {
     line(
         rt,
         "float 0.0 above -0.0: distance 64",
         apart(ZERO, minus(ZERO), 64),
-    )?;
+    );
     line(
         rt,
         "float 1.0 above -1.0: distance 64",
         apart(ONE, minus(ONE), 64),
-    )?;
+    );
     line(
         rt,
         "float 5e-324 above -5e-324: distance 64",
         apart(LEAST, minus(LEAST), 64),
-    )?;
+    );
     line(
         rt,
         "float inf above -inf: distance 64",
         apart(INFINITY, minus(INFINITY), 64),
-    )?;
+    );
     line(
         rt,
         "float 5e-324 above -inf: distance 64",
@@ -98,32 +97,32 @@ fn signs_lines(rt: &impl Print) -> io::Result<()> {
 
 // A neighbour of the same exponent differs in the lowest bits, and at a power of two in 53: in the
 // exponent's lowest bit and in all below it.
-fn neighbours_lines(rt: &impl Print) -> io::Result<()> {
+fn neighbours_lines(rt: &impl Print) {
     line(
         rt,
         "float 5e-324 above 0.0, -0.0 above -5e-324: distance 1",
         apart_with_both_signs(LEAST, ZERO, 1),
-    )?;
+    );
     line(
         rt,
         "float 1.0000000000000002 above 1.0, and minus these: distance 1",
         apart_with_both_signs(ONE + 1, ONE, 1),
-    )?;
+    );
     line(
         rt,
         "float 1.0 above 0.9999999999999999, and minus these: distance 53",
         apart_with_both_signs(ONE, ONE - 1, 53),
-    )?;
+    );
     line(
         rt,
         "float inf above the greatest number, and minus these: distance 53",
         apart_with_both_signs(INFINITY, INFINITY - 1, 53),
-    )?;
+    );
     line(
         rt,
         "float 1.0 above 0.0, -0.0 above -1.0: distance 62",
         apart_with_both_signs(ONE, ZERO, 62),
-    )?;
+    );
     line(
         rt,
         "float inf above 1.0, and minus these: distance 63",
@@ -163,32 +162,32 @@ fn ordinary(number: u32, word: u64) -> bool {
     keys::is_proper(kind, key) && !keys::is_nan(kind, key)
 }
 
-fn nan_lines(rt: &impl Print) -> io::Result<()> {
+fn nan_lines(rt: &impl Print) {
     line(
         rt,
         "float 0.0, -0.0: no NaN",
         told_with_both_signs(ZERO, false),
-    )?;
+    );
     line(
         rt,
         "float 1.0, -1.0: no NaN",
         told_with_both_signs(ONE, false),
-    )?;
+    );
     line(
         rt,
         "float inf, -inf: no NaN",
         told_with_both_signs(INFINITY, false),
-    )?;
+    );
     line(
         rt,
         "float, the pattern after inf, and after -inf: NaN",
         told_with_both_signs(INFINITY + 1, true),
-    )?;
+    );
     line(
         rt,
         "float, every bit set, and every bit but the sign: NaN",
         told_with_both_signs(LAST_NAN, true),
-    )?;
+    );
     line(
         rt,
         "plain, signed, reversed, pair with that pattern: no NaN",
@@ -199,9 +198,9 @@ fn nan_lines(rt: &impl Print) -> io::Result<()> {
     )
 }
 
-pub fn lines(rt: &impl Print) -> io::Result<()> {
-    rounds_lines(rt)?;
-    signs_lines(rt)?;
-    neighbours_lines(rt)?;
+pub fn lines(rt: &impl Print) {
+    rounds_lines(rt);
+    signs_lines(rt);
+    neighbours_lines(rt);
     nan_lines(rt)
 }

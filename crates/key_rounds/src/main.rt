@@ -9,11 +9,10 @@ mod rounds;
 ghost use Rattle.std.specs.Prelude.{◌≡◌};
 
 use keys::{Key, Kind, Pair, Plain, Reversed, Signed, Words};
-use std::io;
 
-fn line(rt: &impl Print, text: &str, ok: bool) -> io::Result<()> {
+fn line(rt: &impl Print, text: &str, ok: bool) {
     let outcome = if ok { "passed" } else { "failed" };
-    println!(rt; "{text}: {outcome}")
+    let _ = println!(rt; "{text}: {outcome}");
 }
 
 // Is `word` the word of `z`, and does each come back from the other?
@@ -53,24 +52,24 @@ fn words(first: u64, second: u64) -> Words
     Words { first, second }
 }
 
-fn signed_lines(rt: &impl Print) -> io::Result<()> {
+fn signed_lines(rt: &impl Print) {
     line(
         rt,
         "signed -1: word 18446744073709551615, back -1",
         signed_at(-1, 18446744073709551615),
-    )?;
-    line(rt, "signed 0: word 0, back 0", signed_at(0, 0))?;
+    );
+    line(rt, "signed 0: word 0, back 0", signed_at(0, 0));
     line(
         rt,
         "signed -9223372036854775808: word 9223372036854775808, back -9223372036854775808",
         signed_at(-9223372036854775808, 9223372036854775808),
-    )?;
-    line(rt, "signed 0 above -1", signed_above(0, -1))?;
+    );
+    line(rt, "signed 0 above -1", signed_above(0, -1));
     line(
         rt,
         "signed -1 above -9223372036854775808",
         signed_above(-1, -9223372036854775808),
-    )?;
+    );
     line(
         rt,
         "signed 0 above -9223372036854775808",
@@ -78,23 +77,23 @@ fn signed_lines(rt: &impl Print) -> io::Result<()> {
     )
 }
 
-fn other_rounds(rt: &impl Print) -> io::Result<()> {
+fn other_rounds(rt: &impl Print) {
     let w = 18446744073709551615;
     line(
         rt,
         "plain 18446744073709551615: back the same",
         rounds::round::<Plain, u64>(w) == w,
-    )?;
+    );
     line(
         rt,
         "reversed 18446744073709551615: back the same",
         rounds::round::<Reversed, u64>(w) == w,
-    )?;
+    );
     line(
         rt,
         "pair (18446744073709551615,1): first back the same",
         rounds::round::<Pair, Words>(words(w, 1)).first == w,
-    )?;
+    );
     line(
         rt,
         "pair (1,18446744073709551615): second back the same",
@@ -102,24 +101,24 @@ fn other_rounds(rt: &impl Print) -> io::Result<()> {
     )
 }
 
-fn other_lines(rt: &impl Print) -> io::Result<()> {
+fn other_lines(rt: &impl Print) {
     line(
         rt,
         "plain 18446744073709551615 above 0",
         plain_above(18446744073709551615, 0),
-    )?;
-    line(rt, "plain 2 above 1", plain_above(2, 1))?;
+    );
+    line(rt, "plain 2 above 1", plain_above(2, 1));
     line(
         rt,
         "reversed 0 above 18446744073709551615",
         reversed_above(0, 18446744073709551615),
-    )?;
-    line(rt, "reversed 1 above 2", reversed_above(1, 2))?;
+    );
+    line(rt, "reversed 1 above 2", reversed_above(1, 2));
     line(
         rt,
         "pair (1,0) above (0,18446744073709551615)",
         pair_above(words(1, 0), words(0, 18446744073709551615)),
-    )?;
+    );
     line(
         rt,
         "pair (1,1) above (1,0)",
@@ -128,7 +127,7 @@ fn other_lines(rt: &impl Print) -> io::Result<()> {
 }
 
 // Document 01's example 7. The two are proved as well: `expect` asks for a proof that they hold.
-fn distance_lines(rt: &impl Print) -> io::Result<()> {
+fn distance_lines(rt: &impl Print) {
     let far = keys::distance(Kind::bare(4), words(1, 0), words(0, 18446744073709551615));
     let near = keys::distance(Kind::bare(4), words(1, 1), words(1, 0));
     check::expect(far == 65);
@@ -137,15 +136,16 @@ fn distance_lines(rt: &impl Print) -> io::Result<()> {
         rt,
         "pair (1,0) to (0,18446744073709551615): distance 65",
         far == 65,
-    )?;
+    );
     line(rt, "pair (1,1) to (1,0): distance 1", near == 1)
 }
 
-fn main(rt: HostRuntime) -> io::Result<()> {
-    signed_lines(&rt)?;
-    other_rounds(&rt)?;
-    other_lines(&rt)?;
-    distance_lines(&rt)?;
-    mixed::lines(&rt)?;
-    floats::lines(&rt)
+// A line that cannot be written is passed over: the next one is tried, and the status is 0.
+fn main(rt: HostRuntime) {
+    signed_lines(&rt);
+    other_rounds(&rt);
+    other_lines(&rt);
+    distance_lines(&rt);
+    mixed::lines(&rt);
+    floats::lines(&rt);
 }
