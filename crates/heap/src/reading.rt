@@ -15,7 +15,7 @@ use pool::{Refusal, State, View};
 pub fn top(state: State, view: View) -> Result<Option<Words>, Refusal>
     ensures { top_answered result (world_seen state view.entry) ≡ top_read (world_seen state view.entry) }
 {
-    pool::examine(&state, view)?;
+    examine(state, view)?;
     Ok(state.head.top())
 }
 
@@ -23,7 +23,7 @@ pub fn top(state: State, view: View) -> Result<Option<Words>, Refusal>
 pub fn len(state: State, view: View) -> Result<u32, Refusal>
     ensures { len_answered result (world_seen state view.entry) ≡ len_read (world_seen state view.entry) }
 {
-    pool::examine(&state, view)?;
+    examine(state, view)?;
     Ok(state.head.len)
 }
 
@@ -56,7 +56,7 @@ pub fn list(
 ) -> Result<u32, Refusal>
     ensures { list_answered result (world_seen state view.entry) listkeys.new listvalues.new ≡ listed (world_seen state view.entry) listkeys.old listvalues.old }
 {
-    pool::examine(&state, view)?;
+    examine(state, view)?;
     let head = state.head;
     if !has_room(
         head.kind,

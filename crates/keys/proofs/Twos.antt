@@ -81,3 +81,7 @@ cast_moved w u = elim (dec_lt w (2 ^ 63)) [
     high k l e =
         ap (λ (n : ℕ). to_z w64 n +ℤ pos (2 ^ 63)) e ∙ ap (λ (z : ℤ). z +ℤ pos (2 ^ 63)) (to_z-neg w64 k l) ∙ up (2 ^ 63) k l
         ∙ ap pos (omega (arith, high_half 63 w (omega arith) u))
+
+-- the same of a number that is the cast of that word, however the word is written
+pub cast_moved_as : {x : ℕ} {z : ℤ} (w : ℕ) → z ≡ to_z w64 x → x ≡ w → w < 2 ^ 64 → z +ℤ pos (2 ^ 63) ≡ pos ((w + 2 ^ 63) % 2 ^ 64)
+cast_moved_as w p e u = ap (λ (z : ℤ). z +ℤ pos (2 ^ 63)) p ∙ ap (λ (n : ℕ). to_z w64 n +ℤ pos (2 ^ 63)) e ∙ cast_moved w u

@@ -52,12 +52,20 @@ fn is_known(number: u32) -> bool
     1 <= number && number <= 6
 }
 
+// Do keys of this kind go by a table?
+#[tactic(auto, unfolding(crate::specs::Names::name_of))]
+fn has_table(kind: Kind) -> bool
+    ensures { result ≡ eqb kind.number 5 }
+{
+    matches!(kind.name(), KindName::Mixed)
+}
+
 // A kind that a heap may have: 1 to 6, with a table in kind 5 and none in any other.
 pub fn kind_fits(kind: Kind) -> bool
     ensures { result ≡ kind_fits kind }
 {
-    match kind.name() {
-        KindName::Mixed => table_fits(kind.table),
-        _ => is_known(kind.number) && kind.table == Table::of(0, 0, 0, 0),
+    if has_table(kind) {
+        return table_fits(kind.table);
     }
+    is_known(kind.number) && kind.table == Table::of(0, 0, 0, 0)
 }

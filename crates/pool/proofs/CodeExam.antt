@@ -1,5 +1,5 @@
 -- The code of the examination against its definitions: laws on plain values, which the proofs of its functions apply.
-use mathlib.Core.Path.{◌≡◌, refl, sym, ap, ap₂, ◌∙◌}
+use mathlib.Core.Path.{subst, ◌≡◌, refl, sym, ap, ap₂, ◌∙◌}
 use mathlib.Core.Bool.{Bool, true, false, cond, ◌&&◌, ◌||◌, and-false, and-true, and_comm, or-true}
 use mathlib.Core.Logic.{◌≢◌, ◌⊎◌, ⊎_elim}
 use mathlib.Core.List.{List, [], ◌∷◌}
@@ -249,8 +249,11 @@ pub record Scan (h : Head) (k : Links) (keys : List ℕ) (m left c : ℕ) (words
   pub same : scan h k keys m 0 (suc (length k.next)) ≡ scan h k keys (m - c) c (suc left)
   pub seen : words ≡ summary (take c k.first)
 
-pub scan_start : (h : Head) (k : Links) (keys : List ℕ) (m : ℕ) → Scan h k keys m (length k.next) 0 (0 ∷ 0 ∷ 0 ∷ [])
-scan_start h k keys m = record { few = le_refl (length k.next); past = zero-le; same = simp sub-zero; seen = summary_none (take 0 k.first) (λ c l. refl) }
+-- before the first chain, with a budget of as many slots as there are
+pub scan_start : (h : Head) (k : Links) (keys : List ℕ) (m : ℕ) {left : ℕ} → left ≡ length k.next → Scan h k keys m left 0 (0 ∷ 0 ∷ 0 ∷ [])
+scan_start h k keys m e =
+    subst (λ (n : ℕ). Scan h k keys m n 0 (0 ∷ 0 ∷ 0 ∷ [])) (sym e)
+    (record { few = le_refl (length k.next); past = zero-le; same = simp sub-zero; seen = summary_none (take 0 k.first) (λ c l. refl) })
 
 module _ {h : Head} {k : Links} {keys : List ℕ} {m left c : ℕ} {words : List ℕ} (t : Scan h k keys m left c words) where
   pub scan_over : m ≤ c → scan h k keys m 0 (suc (length k.next)) ≡ suc left

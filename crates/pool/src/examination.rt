@@ -38,7 +38,7 @@ fn top_is_plain(head: Head) -> bool
 }
 
 // Are these the busy words of the state?
-#[tactic(auto, using(crate::proofs::CodeExam::same_three))]
+#[tactic(auto, using(crate::proofs::CodeExam::same_three), unfolding(crate::specs::Marks::same_words))]
 fn has_busy(state: &State, words: [u64; 3]) -> bool
     ensures { result ≡ same_words words state.now.busy }
 {

@@ -1,4 +1,5 @@
 -- `pool::examination::FitPool::walk_all` meets its contract: each way out of the loop, and each turn of it.
+use borrow.Author.Rules.{rules}
 use Rattle.std.proofs.Common.{◌≡◌, ◌≢◌, ◌⊎◌, inl, inr, Bool, true, suc, get_or, sym, ap, ◌∙◌}
 use Rattle.pool.specs.Lent.{links_at}
 use Rattle.pool.specs.World.{Links}
@@ -10,7 +11,7 @@ use Rattle.pool.proofs.examination.FitPool.walk_all.Goals.{then-end-ne0+else-end
 use Rattle.pool.proofs.examination.FitPool.walk_all.Goals as goal
 
 pub loop-c-init : goal.loop-c-init
-loop-c-init c = scan_start _ _ _ _
+loop-c-init c = scan_start _ _ _ _ (search rules)
 
 pub returns-then-end-self : goal.returns-then-end-self
 unfolding left_over
